@@ -53,8 +53,9 @@ result (judging file rule words) = ruled (verdict file rule words)
 abbrev pub Holds : List (Task × Result) → Type 0
 Holds cases = map (λ (c : Task × Result). result (c .0)) cases ≡ map (λ (c : Task × Result). c .1) cases
 
-abbrev steps : List ℕ
-steps =
+-- its steps
+abbrev pub counterSteps : List ℕ
+counterSteps =
     (4 ∷ 0 ∷ 4 ∷ 0 ∷ 20 ∷ [])
     ++ (3 ∷ 2 ∷ 6 ∷ 0 ∷ 34 ∷ [])
     ++ (0 ∷ 5 ∷ 1 ∷ 1 ∷ 54 ∷ [])
@@ -78,28 +79,28 @@ both os =
 unfoldable pub tenCases : List (Task × Result)
 tenCases =
     -- "Steps"; a word to spare stays
-    (expanding (counter 2 6 10) (replicate 31 7), expanded (lent (Steps 6) (steps ++ (7 ∷ []))))
+    (expanding (counter 2 6 10) (replicate 31 7), expanded (lent (Steps 6) (counterSteps ++ (7 ∷ []))))
     -- "Call 1: state 1, v0 = 2, 6 units."
-    ∷ (calling (counter 2 6 10) steps (named 1 0 ∷ []), both (outcome (Completed NoValue 6) (holding 1 2 5 0) ∷ []))
+    ∷ (calling (counter 2 6 10) counterSteps (named 1 0 ∷ []), both (outcome (Completed NoValue 6) (holding 1 2 5 0) ∷ []))
     -- "Limit 5: refusal 26, 5 units, v0 = 0."
-    ∷ (calling (counter 2 5 10) steps (named 1 0 ∷ []), both (outcome (Refused (refusal 26) 5) (holding 0 0 5 0) ∷ []))
+    ∷ (calling (counter 2 5 10) counterSteps (named 1 0 ∷ []), both (outcome (Refused (refusal 26) 5) (holding 0 0 5 0) ∷ []))
     -- "Call 1 twice: second 22."
     ∷ (
-      calling (counter 2 6 10) steps (named 1 0 ∷ named 1 0 ∷ []),
+      calling (counter 2 6 10) counterSteps (named 1 0 ∷ named 1 0 ∷ []),
       both (outcome (Completed NoValue 6) (holding 1 2 5 0) ∷ outcome (Refused (refusal 22) 0) (holding 1 2 5 0) ∷ []),
     )
     -- "Call 9: 25, 1 unit."
-    ∷ (calling (counter 2 6 10) steps (named 9 0 ∷ []), both (outcome (Refused (refusal 25) 1) (holding 0 0 5 0) ∷ []))
+    ∷ (calling (counter 2 6 10) counterSteps (named 9 0 ∷ []), both (outcome (Refused (refusal 25) 1) (holding 0 0 5 0) ∷ []))
     -- "Coins 5 with call 1: own balance 5."
-    ∷ (calling (counter 2 6 10) steps (named 1 5 ∷ []), both (outcome (Completed NoValue 6) (holding 1 2 0 5) ∷ []))
+    ∷ (calling (counter 2 6 10) counterSteps (named 1 5 ∷ []), both (outcome (Completed NoValue 6) (holding 1 2 0 5) ∷ []))
     -- "Coins 6: 21."
-    ∷ (calling (counter 2 6 10) steps (named 1 6 ∷ []), both (outcome (Refused (refusal 21) 0) (holding 0 0 5 0) ∷ []))
+    ∷ (calling (counter 2 6 10) counterSteps (named 1 6 ∷ []), both (outcome (Refused (refusal 21) 0) (holding 0 0 5 0) ∷ []))
     -- "Bound 1, rule 0: spent, 1."
-    ∷ (judging (counter 2 6 1) 0 (replicate 30 0), ruled (lent (judgedOf (spent 1)) steps))
+    ∷ (judging (counter 2 6 1) 0 (replicate 30 0), ruled (lent (judgedOf (spent 1)) counterSteps))
     -- "Depth 0: held, 1."
-    ∷ (judging (counter 0 6 10) 0 (replicate 30 0), ruled (lent (judgedOf (held 1)) steps))
+    ∷ (judging (counter 0 6 10) 0 (replicate 30 0), ruled (lent (judgedOf (held 1)) counterSteps))
     -- "Bound 3, rule 1: held, 3."
-    ∷ (judging (counter 2 6 3) 1 (replicate 30 0), ruled (lent (judgedOf (held 3)) steps))
+    ∷ (judging (counter 2 6 3) 1 (replicate 30 0), ruled (lent (judgedOf (held 3)) counterSteps))
     ∷ []
 
 abbrev pub TenCases : Type 0

@@ -19,9 +19,6 @@ constant n = encoded 64 (word32 n)
 abbrev pub variable : ℕ → List ℕ
 variable i = encoded 65 (word16 i)
 
-abbrev pub context : ℕ → List ℕ
-context i = encoded 68 (word16 i)
-
 abbrev pub binary : (operator : ℕ) (left right : List ℕ) → List ℕ
 binary o x y = encoded 80 (word16 o ++ x ++ y)
 
