@@ -1,6 +1,6 @@
 -- "One call, unexpanded" and "Starting": both operations on the unexpanded form, with their complete outcome.
 use Prim.Native.Nat.{ℕ, _+_, _-_}
-use mathlib.Core.Bool.{Bool, true, false, _&&_, _||_}
+use mathlib.Core.Bool.{Bool, _&&_, _||_}
 use mathlib.Core.Bool
 use mathlib.Core.Option.{Option, none, some}
 use mathlib.Core.List.{List, [], _∷_, _++_}
@@ -16,9 +16,9 @@ use Rattle.rules.specs.declared.Outcome.{Outcome}
 use Rattle.rules.specs.declared.Refusal.{Refusal}
 use Rattle.rules.specs.declared.Returned.the-variants.{NoValue}
 use Rattle.rules.specs.declared.State.{State}
-use Rattle.rules.specs.Basics.{if_then_else_, firstOf, given, any, find, isNone, sum}
+use Rattle.rules.specs.Basics.{firstOf, given, any, find, isNone, sum}
 use Rattle.rules.specs.Syntax.{Transition, Agreement}
-use Rattle.rules.specs.Accepting.{refusal, File, fileOf, onFile}
+use Rattle.rules.specs.Accepting.{refusal, fileOf, onFile}
 use Rattle.rules.specs.Values.{isTrue}
 use Rattle.rules.specs.Running.{Setting, machine, Run, going, returned, stopped, _>>=_, _>>_, statement, guarded}
 
@@ -41,8 +41,8 @@ unfoldable pub total : State → ℕ
 total s = sum (s .balances) + s .own
 
 -- "Starting: variables zero, opening balances, own balance 0, start state"
-unfoldable pub fresh : Fields → State
-fresh f = record { state = f .start; variables = replicate 16 0; balances = f .opening; own = 0 }
+unfoldable pub openingState : Fields → State
+openingState f = record { state = f .start; variables = replicate 16 0; balances = f .opening; own = 0 }
 
 -- "the initial action runs with sender 0, no coins, zero arguments"
 unfoldable pub noCall : Call
@@ -91,7 +91,7 @@ unfit f s =
     || any isTrue (drop (f .accounts) (s .balances))
     || Bool.not (eqb (total s) (sum (f .opening)))
 
--- A call's refusals before anything is charged, "the smaller number first": `lent` are those of the lent words, `elsewhere`
+-- A call's refusals before anything is charged, "the smaller number goes first": `lent` are those of the lent words, `elsewhere`
 -- says "name known, but not from here".
 unfoldable pub callTests : Fields → State → Call → (lent : List (Bool × ℕ)) (elsewhere : Bool) → List (Bool × ℕ)
 callTests f s k lent elsewhere =
@@ -111,7 +111,7 @@ module _ (f : Fields) where
 
   -- a start, given how the initial action runs
   unfoldable pub startBy : (Setting → Machine → End) → Outcome
-  startBy run = started (run startSetting (entered noCall (fresh f)))
+  startBy run = started (run startSetting (entered noCall (openingState f)))
 
   -- a call, given its tests and how it runs
   unfoldable pub callBy : (tests : List (Bool × ℕ)) → (Setting → Machine → End) → State → Call → Outcome
@@ -152,10 +152,14 @@ start file = onFile (λ r. refusedStart r 0) startTree (fileOf file)
 unfoldable pub call : (file : List ℕ) → State → Call → Outcome
 call file s k = onFile (λ r. refusedCall r 0 s) (λ a. callTree a s k) (fileOf file)
 
--- A list of calls from a start: "each call gets the record that the call before it handed back, refused or not".
+-- A list of calls from a state record: "each call gets the record that the call before it handed back, refused or not".
+unfoldable pub callsFrom : (State → Call → Outcome) → State → List Call → List Outcome
+callsFrom call s [] = []
+callsFrom call s (k ∷ ks) = let o = call s k in o ∷ callsFrom call (o .state) ks
+
+-- the start's outcome, then the calls'
 unfoldable pub follow : (State → Call → Outcome) → Outcome → List Call → List Outcome
-follow f o [] = o ∷ []
-follow f o (k ∷ ks) = o ∷ follow f (f (o .state) k) ks
+follow call o ks = o ∷ callsFrom call (o .state) ks
 
 unfoldable pub runList : (file : List ℕ) → List Call → List Outcome
 runList file = follow (call file) (start file)

@@ -4,21 +4,24 @@ use Prim.Native.Nat.{ℕ, _+_, _≤_, _<_}
 use mathlib.Core.Bool.{Bool, true, false}
 use mathlib.Core.List.{List, [], _∷_}
 use mathlib.Core.Logic.{_↔_}
-use lib.ListN.{length}
+use mathlib.Core.Option.{some}
+use lib.ListN.{length, getElem?}
 use Rattle.rules.specs.declared.Call.{Call}
-use Rattle.rules.specs.declared.Fields.{Fields}
 use Rattle.rules.specs.declared.Machine.{Machine}
 use Rattle.rules.specs.declared.Outcome.{Outcome}
+use Rattle.rules.specs.declared.Refusal.{Refusal}
+use Rattle.rules.specs.declared.Counted.the-variants as counted
 use Rattle.rules.specs.declared.State.{State}
+use Rattle.rules.specs.declared.Verdict.the-variants as verdicts
 use Rattle.rules.specs.Basics.{sum}
 use Rattle.rules.specs.Syntax.{Expr, Simple, Stmt, Rule, Agreement}
 use Rattle.rules.specs.Expanding.{expansion, table}
-use Rattle.rules.specs.Accepting.{good, fileOf, expandFile, Lent}
+use Rattle.rules.specs.Accepting.{good, fileOf, lent, tooFew, written, expandFile}
 use Rattle.rules.specs.Running.{Setting, _>>=_, _>>_, perform, condition, loop, repeat, statement}
 use Rattle.rules.specs.Calling.{total, unfit, zeroState, start, call, runList}
 use Rattle.rules.specs.Stepping.{beginsWith, startExpanded, callExpanded, walk, walkFrom, runListExpanded, lentSteps}
 use Rattle.rules.specs.Lists.{listsTo, At, Within, Before}
-use Rattle.rules.specs.Judging.{isCompleted, Ruling, broken, held, spent, breaking, listsFor, ruling, verdict}
+use Rattle.rules.specs.Judging.{isCompleted, Ruling, broken, held, spent, breaking, listsFor, ruling, judgedOf, verdict}
 
 -- each of a list
 pub data All {A : Type 0} (P : A → Type 0) : List A → Type 0 where
@@ -75,7 +78,24 @@ PlacesInOrder =
     × ((n m : ℕ) (l : List ℕ) → At (listsTo k depth) n l → At (listsTo k depth) m l → n ≡ m)
     × ((n m : ℕ) (l k′ : List ℕ) → At (listsTo k depth) n l → At (listsTo k depth) m k′ → n < m → Before l k′)
 
--- "The sum of all balances and the own balance never changes": from a completed start through any list of calls.
+-- The verdict that a client gets is this ruling: for an accepted file, a rule that is there, words enough and a completed start.
+abbrev pub VerdictIsRuling : Type 0
+VerdictIsRuling =
+    (file words : List ℕ) (i : ℕ) (a : Agreement) (r : Rule)
+    → fileOf file ≡ good a
+    → getElem? (a .rules) i ≡ some r
+    → tooFew a words ≡ false
+    → isCompleted (start file .answer) ≡ true
+    → verdict file i words ≡ lent (judgedOf (ruling a r)) (written a words)
+
+-- "The sum of all balances and the own balance never changes": by any call, refused or not, on either form, whatever the record.
+abbrev pub CallsKeepTotal : Type 0
+CallsKeepTotal =
+    (file words : List ℕ) (s : State) (k : Call)
+    → length (s .balances) ≡ 8
+    → (total (call file s k .state) ≡ total s) × (total (callExpanded file words s k .state) ≡ total s)
+
+-- And from a completed start through any list of calls it is the file's.
 abbrev pub TotalKept : Type 0
 TotalKept =
     (file : List ℕ) (a : Agreement) (calls : List Call)
@@ -99,6 +119,13 @@ RefusedUnchanged =
     × (isCompleted (callExpanded file words s k .answer) ≡ false → callExpanded file words s k .state ≡ s)
     × (isCompleted (start file .answer) ≡ false → start file .state ≡ zeroState)
     × (isCompleted (startExpanded file words .answer) ≡ false → startExpanded file words .state ≡ zeroState)
+
+-- A refused expansion or verdict leaves the lent words as they were. (An expanded start or call only reads them.)
+abbrev pub WordsUnchanged : Type 0
+WordsUnchanged =
+    (file words : List ℕ) (i : ℕ) (r : Refusal)
+    → (expandFile file words .answer ≡ counted.Refused r → expandFile file words .words ≡ words)
+    × (verdict file i words .answer .verdict ≡ verdicts.Refused r → verdict file i words .words ≡ words)
 
 -- What ends a loop is its condition, a refusal or a return, and never the number of tests that `repeat` allows: with any more
 -- it does the same. Of a while and of a for.

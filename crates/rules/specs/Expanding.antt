@@ -18,11 +18,11 @@ abbrev pub step : (origin target kind name at : ℕ) → Step
 step o t k n a = record { origin = o; target = t; kind = k; name = n; at = a }
 
 -- "Kinds: 4 set, 5 transfer, 6 require, 7 return."
-unfoldable pub kindOf : Simple → ℕ
-kindOf (set t x) = 4
-kindOf (transfer x y) = 5
-kindOf (require x) = 6
-kindOf (return x) = 7
+unfoldable pub stepKind : Simple → ℕ
+stepKind (set t x) = 4
+stepKind (transfer x y) = 5
+stepKind (require x) = 6
+stepKind (return x) = 7
 
 -- "set, transfer, require: o to d; return: o to r"
 unfoldable pub targetOf : Simple → (d r : ℕ) → ℕ
@@ -32,7 +32,7 @@ targetOf (require x) d r = d
 targetOf (return x) d r = r
 
 unfoldable pub stepOf : (at : ℕ) → Simple → (o d r : ℕ) → Step
-stepOf at x o d r = step o (targetOf x d r) (kindOf x) 0 at
+stepOf at x o d r = step o (targetOf x d r) (stepKind x) 0 at
 
 -- "block of m: make m−1 nodes"
 unfoldable pub joints : Stmts → ℕ

@@ -91,7 +91,8 @@ sizeOf bytes = number (take 2 bytes)
 unfoldable pub kindOf : List ℕ → ℕ
 kindOf bytes = number (part 2 4 bytes)
 
--- "length under 4 or past the parent (1 to 3 bytes where a child begins count as past the parent)" does not hold
+-- a whole record stands here; else "length under 4 or past the parent (1 to 3 bytes where a child begins count as past the
+-- parent)" or "child absent"
 unfoldable pub whole : List ℕ → Bool
 whole bytes = has 4 bytes && leb 4 (sizeOf bytes) && has (sizeOf bytes) bytes
 
@@ -105,11 +106,11 @@ child body start at left =
 unfoldable pub only : {A : Type 0} → (kind : ℕ) → Reader A → ℕ → Reader A
 only kind body k = if eqb k kind then body else refuse 3
 
--- whether the next child, if any, bears this kind
+-- whether the next child, if any, bears this kind; this only chooses the reader, and `child` tests the length first in each
 unfoldable pub comes : (kind : ℕ) → Reader Bool
 comes kind start at left = read (has 4 left && eqb (kindOf left) kind) at left
 
--- children of one kind while they come; "one child too many (that child, tested after its kind)"
+-- children of one kind while they come; "one child too many of transitions, rows or rules (that child, tested after its kind)"
 unfoldable pub group : {A : Type 0} → (most kind : ℕ) → Reader A → Reader (List A)
 group zero kind body = do
   c ← comes kind
@@ -127,7 +128,8 @@ noMore = do
   e ← atEnd
   if e then pure tt else child (λ _. refuse 3)
 
--- one or more statements up to the record's end, each at least 4 bytes long: n is at least the number of bytes left
+-- one or more statements up to the record's end, each at least 4 bytes long: n is the number of bytes left, or more. It is 0
+-- only in an empty block, where s refuses.
 unfoldable pub statements : (n : ℕ) → Reader Stmt → Reader Stmts
 statements zero s = do
   x ← s
@@ -287,13 +289,13 @@ readTree file =
     let tree = child (only 1 agreementBody) 0 0 file in
     if leb 4 (length file) && leb (length file) 32768 && eqb (sizeOf file) (length file) then tree else refused 1 0
 
-unfoldable pub value : {A : Type 0} → Reading A → Option A
-value (refused n p) = none
-value (read a at left) = some a
+unfoldable pub treeOf : {A : Type 0} → Reading A → Option A
+treeOf (refused n p) = none
+treeOf (read a at left) = some a
 
 -- the expression and the one-step statement whose record begins at a file offset
 unfoldable pub exprAt : (file : List ℕ) (vars at : ℕ) → Option Expr
-exprAt file vars at = value (expression vars false 16 at at (drop at file))
+exprAt file vars at = treeOf (expression vars false 16 at at (drop at file))
 
 unfoldable pub simpleAt : (file : List ℕ) (vars at : ℕ) → Option Simple
-simpleAt file vars at = value (child (λ kind. choose kind (simples vars (expression vars false 16)) (refuse 3)) at at (drop at file))
+simpleAt file vars at = treeOf (child (λ kind. choose kind (simples vars (expression vars false 16)) (refuse 3)) at at (drop at file))

@@ -25,13 +25,18 @@ fileWith tail = encoded 1 (fields ++ action ++ action ++ tail)
 abbrev fileOfFallback : List ℕ → List ℕ
 fileOfFallback s = encoded 1 (fields ++ action ++ s)
 
+-- two accounts whose opening balances do not fit 32 bits; what follows the actions begins at 48
+abbrev rich : (tail : List ℕ) → List ℕ
+rich tail =
+    encoded 1 (1 ∷ 1 ∷ 2 ∷ 0 ∷ 0 ∷ 0 ∷ word16 1 ++ word32 1 ++ word32 4_294_967_295 ++ word32 1 ++ action ++ action ++ tail)
+
 abbrev move : (name : ℕ) → List ℕ
 move n = transition n 0 0 (constant 1) action
 
--- n expressions `not`, each in the other
-abbrev nested : ℕ → List ℕ
-nested zero = constant 0
-nested (suc n) = encoded 81 (nested n)
+-- n expressions `not`, each in the other, and within them x
+abbrev nested : (n : ℕ) (x : List ℕ) → List ℕ
+nested zero x = x
+nested (suc n) x = encoded 81 (nested n x)
 
 -- a block of n statements
 abbrev long : ℕ → List ℕ
@@ -45,7 +50,7 @@ refusals =
     -- 1: too short, too long, the first length not the file's
     ([], refused 1 0)
     ∷ (4 ∷ 0 ∷ 1 ∷ [], refused 1 0)
-    ∷ (replicate 32769 0, refused 1 0)
+    ∷ (encoded 1 (replicate 32765 0), refused 1 0)
     ∷ (5 ∷ 0 ∷ 1 ∷ 0 ∷ [], refused 1 0)
     -- the kind of the file's record; presence before range, field by field
     ∷ (encoded 7 [], refused 3 0)
@@ -69,8 +74,11 @@ refusals =
     ∷ (fileWith (rule 4 0 0), refused 4 44)
     ∷ (fileWith (rule 2 1 1), refused 4 44)
     ∷ (fileWith (row 1 0 ++ move 1), refused 3 72)
+    ∷ (fileWith (always (variable 0) ++ row 1 0), refused 3 58)
+    ∷ (fileOfFallback (require (encoded 68 (word16 4))), refused 4 36)
     ∷ (fileWith (encoded 3 (1 ∷ 0 ∷ replicate 23 0)), refused 2 72)
     ∷ (fileOfFallback (encoded 18 (constant 0 ++ constant 0)), refused 2 44)
+    ∷ (fileWith (move 1 ++ encoded 4 (word16 2 ++ (1 ∷ 1 ∷ constant 0))), refused 2 80)
     -- an empty block; a set of a `for` that is none
     ∷ (fileOfFallback (block []), refused 2 36)
     ∷ (fileOfFallback (encoded 36 action), refused 3 36)
@@ -78,17 +86,21 @@ refusals =
     ∷ (fileWith (always (encoded 66 [])), refused 3 52)
     ∷ (fileWith (always (encoded 67 (word16 9))), refused 3 52)
     ∷ (fileWith (always (encoded 68 (word16 1))), refused 4 52)
-    -- one child too many
+    -- one child too many, tested after its length; after 64 transitions a row is fine
+    ∷ (fileWith (each move 0 64 ++ row 1 0), Steps 130)
+    ∷ (fileWith (each move 0 64 ++ (3 ∷ 0 ∷ 2 ∷ 0 ∷ [])), refused 2 (44 + 64 * 28))
     ∷ (fileWith (each move 0 65), refused 4 (44 + 64 * 28))
     ∷ (fileWith (joined (λ (i : ℕ). row i 0) (replicate 17 1)), refused 4 (44 + 16 * 28))
     ∷ (fileWith (joined (λ (i : ℕ). always (variable i)) (replicate 9 0)), refused 4 (44 + 8 * 14))
-    -- level 16 and level 17; a `not` on level 16 with no child
-    ∷ (fileOfFallback (return (nested 13)), Steps 2)
-    ∷ (fileOfFallback (return (nested 14)), refused 5 (36 + 14 * 4))
-    ∷ (fileOfFallback (return (encoded 81 [])), refused 2 40)
-    -- 6, 7, 8
+    -- level 16, level 17 (also of no kind at all); a `not` on level 16 with no child
+    ∷ (fileOfFallback (return (nested 13 (constant 0))), Steps 2)
+    ∷ (fileOfFallback (return (nested 14 (constant 0))), refused 5 (36 + 14 * 4))
+    ∷ (fileOfFallback (return (nested 14 (encoded 99 []))), refused 5 (36 + 14 * 4))
+    ∷ (fileOfFallback (return (nested 13 (encoded 81 []))), refused 2 (36 + 14 * 4))
+    -- 6, 7, 8, in this order
+    ∷ (rich (move 1 ++ move 1), refused 6 76)
+    ∷ (rich [], refused 7 0)
     ∷ (fileWith (move 1 ++ move 2 ++ move 1), refused 6 (44 + 2 * 28))
-    ∷ (encoded 1 (1 ∷ 1 ∷ 2 ∷ 0 ∷ 0 ∷ 0 ∷ word16 1 ++ word32 1 ++ word32 4_294_967_295 ++ word32 1 ++ action ++ action), refused 7 0)
     ∷ (fileOfFallback (long 1023), Steps 1024)
     ∷ (fileOfFallback (long 1024), refused 8 0)
     ∷ []

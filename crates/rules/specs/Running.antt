@@ -1,6 +1,6 @@
 -- "One call, unexpanded", items 3 and 4: what statements do to a machine, and the units they cost.
 use Prim.Native.Nat.{ℕ, zero, suc, _+_, _-_}
-use mathlib.Core.Bool.{Bool, true, false, _&&_}
+use mathlib.Core.Bool.{Bool, _&&_}
 use mathlib.Core.List.{List, [], _∷_}
 use lib.ListN.{getD}
 use lib.ListN

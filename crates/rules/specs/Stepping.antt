@@ -1,5 +1,7 @@
 -- "Starting and calling can be done on the expanded form too, reading only the steps, the agreement's kind and fields and the
--- records at the steps' offsets; past refusal 12 their meaning is defined on these alone".
+-- records at the steps' offsets; past refusal 12 their meaning is defined on these alone, and not by way of the unexpanded
+-- call." What is shared with it (perform, condition, guarded, startBy, callBy) is "Items 1, 3 and 5, the limit, the refusals and
+-- what a run begins with".
 use Prim.Native.Nat.{ℕ, zero, suc, _*_}
 use mathlib.Core.Bool.{Bool, true, false, _&&_, not}
 use mathlib.Core.Option.{Option, none, some}
@@ -11,18 +13,18 @@ use Rattle.rules.specs.declared.Fields.{Fields}
 use Rattle.rules.specs.declared.Machine.{Machine}
 use Rattle.rules.specs.declared.Outcome.{Outcome}
 use Rattle.rules.specs.declared.State.{State}
-use Rattle.rules.specs.Basics.{if_then_else_, firstOf, given, any, find, isNone}
-use Rattle.rules.specs.Syntax.{Expr, Simple, Agreement}
+use Rattle.rules.specs.Basics.{if_then_else_, choose, firstOf, given, any, find, isNone}
+use Rattle.rules.specs.Syntax.{Agreement}
 use Rattle.rules.specs.Reading.{exprAt, simpleAt}
 use Rattle.rules.specs.Expanding.{Step, expansion, table, stepsIn, fallbackEnd, fallbackEntry, initialEntry}
-use Rattle.rules.specs.Accepting.{refusal, File, fileOf, onFile, tooFew}
-use Rattle.rules.specs.Running.{Setting, Run, Exec, stop, perform, condition, guarded}
+use Rattle.rules.specs.Accepting.{refusal, fileOf, onFile, tooFew}
+use Rattle.rules.specs.Running.{Setting, Exec, stop, perform, condition, guarded}
 use Rattle.rules.specs.Calling.{End, ended, halted, leads, refusedStart, refusedCall, callTests, startBy, callBy, follow}
 
 -- Past refusal 12 a step and its record are there, so what is said of "none" in this file is never met.
-unfoldable pub targetOf : Option Step → ℕ
-targetOf none = 0
-targetOf (some s) = s .target
+unfoldable pub targetIn : Option Step → ℕ
+targetIn none = 0
+targetIn (some s) = s .target
 
 unfoldable pub with : {A B : Type 0} → (A → Exec B) → Option A → Exec B
 with g none = stop 25
@@ -56,7 +58,7 @@ module _ (file : List ℕ) (f : Fields) (steps : List Step) where
     -- "of a condition's two the one its value names"; "the two steps of one condition share one evaluation and one unit"
     unfoldable pub decided : Step → Machine → End
     decided s m =
-        leads (λ b. targetOf (stepFrom (s .origin) (if b then 2 else 3))) (s .target)
+        leads (λ b. targetIn (stepFrom (s .origin) (if b then 2 else 3))) (s .target)
         (with (condition c) (exprAt file (f .variables) (s .at)) m)
 
     -- a statement's step; a return too goes on at the step's target
@@ -65,14 +67,17 @@ module _ (file : List ℕ) (f : Fields) (steps : List Step) where
 
     -- "Kinds: 2 condition true, 3 condition false, 4 set, 5 transfer, 6 require, 7 return."
     unfoldable pub advance : Step → Machine → End
-    advance s = if leb (s .kind) 3 then decided s else performed s
+    advance s =
+        choose (s .kind)
+        ((2, decided s) ∷ (3, decided s) ∷ (4, performed s) ∷ (5, performed s) ∷ (6, performed s) ∷ (7, performed s) ∷ [])
+        (halted 25)
 
     unfoldable pub taken : (ℕ → Machine → End) → Option Step → Machine → End
     taken g none m = halted 25 m
     taken g (some s) m = onward g (advance s m)
 
-    -- "Either ends on reaching a node from 0 to S. At a node the run takes the step leaving it, carries it out and goes on at
-    -- its target." At most k nodes.
+    -- "Either ends on reaching a node from 0 to S." "At a node the run takes the step leaving it, .. carries it out and goes on
+    -- at its target." At most k nodes.
     unfoldable pub walk : (k node : ℕ) → Machine → End
     walk zero n = halted 26
     walk (suc k) n = if leb n (fallbackEnd f) then ended n else taken (walk k) (leaving n)
