@@ -1,0 +1,5 @@
+pub mod Trees
+pub mod Refusing
+pub mod Actions
+pub mod Fitting
+pub mod Conserving
