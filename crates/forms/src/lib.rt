@@ -1,0 +1,1 @@
+// No functions: proofs/ shows that the expanded form and the unexpanded one agree.
