@@ -19,7 +19,7 @@ use Rattle.rules.specs.Accepting.{refusal, good, fileOf, onFile}
 use Rattle.rules.specs.Running.{Setting, Run, going, returned, stopped, after, statement, guarded}
 use Rattle.rules.specs.Calling.{End, ended, leads, endsIn, started, called, refusedCall, openingState, entered, noCall, callTests, startSetting, callSetting, startBy, callBy}
 use Rattle.rules.specs.Calling.{runInitial, runBy, startTree, callTree, start, call, follow, runList}
-use Rattle.rules.specs.Stepping.{with, onward, admitted, walk, walkFrom, walkBy, settled, startSteps, callSteps}
+use Rattle.rules.specs.Stepping.{recordsIn, with, onward, admitted, walk, walkFrom, walkBy, settled, startSteps, callSteps}
 use Rattle.rules.specs.Stepping.{beginsWith, lentTests, startExpanded, callExpanded, runListExpanded}
 use Rattle.rules.specs.Demands.{FormsAgree}
 use Rattle.forms.proofs.Accepted.{Sound, Good, file-good}
@@ -46,7 +46,7 @@ module _ (file : List ℕ) (a : Agreement) (ok : Good file a) where
     c = record { fields = f; before = before; call = k }
 
     abbrev settle : End → End
-    settle = settled file f T c
+    settle = settled c
 
     -- a walk that is at the node n ends in the state t
     end : (n t : ℕ) → n ≤ S → (if eqb n S then before else n) ≡ t → (v : Machine) → settle (W c file T n v) ≡ ended t v
@@ -65,7 +65,7 @@ module _ (file : List ℕ) (a : Agreement) (ok : Good file a) where
     in-state n h = ends n n (omega arith) (rw (ne-eqb n S (omega arith)))
 
     -- the initial action
-    start-run : (m : Machine) → settle (walkFrom file f T c (S + 2) m) ≡ runInitial a c m
+    start-run : (m : Machine) → settle (walkFrom (recordsIn file (f .variables)) f T c (S + 2) m) ≡ runInitial a c m
     unfolding runInitial
     start-run m =
         ap settle (follows c file T (a .initial) (S + 2) (f .start) (f .start) (S + 3) (initial-wired file a ok) (ok .initial-reads) m)
@@ -73,7 +73,7 @@ module _ (file : List ℕ) (a : Agreement) (ok : Good file a) where
 
     -- a guard, and then the action
     guard-run : (t : Transition) (g : ℕ) → Sound file (f .variables) S t → Wired T S (t .action) g (t .to) (t .to) (g + 1) → (m : Machine) (r : Run (Unit {0}))
-        → Costs c 1 goes m r → settle (onward (walkFrom file f T c) (leads (λ _. g) g r)) ≡ endsIn (t .to) (after r (λ _. statement c (t .action)))
+        → Costs c 1 goes m r → settle (onward (walkFrom (recordsIn file (f .variables)) f T c) (leads (λ _. g) g r)) ≡ endsIn (t .to) (after r (λ _. statement c (t .action)))
     unfolding onward leads endsIn settled
     guard-run t g s w m (going u v) h =
         ap settle (follows c file T (t .action) g (t .to) (t .to) (g + 1) w (s .action-reads) v) ∙ in-state (t .to) (s .to-state) (statement c (t .action) v)
@@ -81,7 +81,7 @@ module _ (file : List ℕ) (a : Agreement) (ok : Good file a) where
     guard-run t g s w m (stopped i v) h = refl
 
     -- a call, by its entry and by its transition
-    call-run : (e : Option Step) (t : Option Transition) → Entry file (f .variables) S T e t → (m : Machine) → settle (walkBy file f T c e m) ≡ runBy a t c m
+    call-run : (e : Option Step) (t : Option Transition) → Entry file (f .variables) S T e t → (m : Machine) → settle (walkBy (recordsIn file (f .variables)) f T c e m) ≡ runBy a t c m
     unfolding walkBy runBy admitted with
     call-run e t neither m =
         ap settle (follows c file T (a .fallback) (S + 1) S S _ (fallback-wired file a ok) (ok .fallback-reads) m)
@@ -90,7 +90,7 @@ module _ (file : List ℕ) (a : Agreement) (ok : Good file a) where
 
   -- ---- a start and a call on the steps of the expansion
 
-  start-same : startSteps file f T ≡ startTree a
+  start-same : startSteps (recordsIn file (f .variables)) f T ≡ startTree a
   unfolding startSteps startTree startBy startSetting
   start-same = ap started (start-run (f .start) noCall (entered noCall (openingState f)))
 
@@ -99,7 +99,7 @@ module _ (file : List ℕ) (a : Agreement) (ok : Good file a) where
   none-same e t neither = refl
   none-same e t (both u g s w) = refl
 
-  call-same : (s : State) (k : Call) → callSteps file f T [] s k ≡ callTree a s k
+  call-same : (s : State) (k : Call) → callSteps (recordsIn file (f .variables)) f T [] s k ≡ callTree a s k
   unfolding callSteps callTree callBy callSetting
   call-same s k =
       let h = entry-is file a ok (k .name) (s .state) in
@@ -110,10 +110,10 @@ module _ (file : List ℕ) (a : Agreement) (ok : Good file a) where
 
 module _ (file : List ℕ) (a : Agreement) (e : fileOf file ≡ good a) where
   -- on the steps of the expansion a start and a call do what they do unexpanded
-  pub start-steps : startSteps file (a .fields) (expansion a) ≡ startTree a
+  pub start-steps : startSteps (recordsIn file (a .fields .variables)) (a .fields) (expansion a) ≡ startTree a
   start-steps = start-same file a (file-good file a e)
 
-  pub call-steps : (s : State) (k : Call) → callSteps file (a .fields) (expansion a) [] s k ≡ callTree a s k
+  pub call-steps : (s : State) (k : Call) → callSteps (recordsIn file (a .fields .variables)) (a .fields) (expansion a) [] s k ≡ callTree a s k
   call-steps = call-same file a (file-good file a e)
 
   -- with lent words that begin with the expansion
@@ -123,7 +123,7 @@ module _ (file : List ℕ) (a : Agreement) (e : fileOf file ≡ good a) where
     start-lent = rw (e, lent-pass words a h, lent-steps words a h) start-steps
 
     -- the tests of the lent words refuse nothing
-    call-tests : (s : State) (k : Call) → callSteps file (a .fields) (expansion a) (lentTests a words) s k ≡ callSteps file (a .fields) (expansion a) [] s k
+    call-tests : (s : State) (k : Call) → callSteps (recordsIn file (a .fields .variables)) (a .fields) (expansion a) (lentTests a words) s k ≡ callSteps (recordsIn file (a .fields .variables)) (a .fields) (expansion a) [] s k
     unfolding callSteps callBy
     call-tests s k = ap (given _ _) (lent-call-pass words a h s k _)
 

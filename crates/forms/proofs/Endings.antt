@@ -1,18 +1,16 @@
 -- A loop ends by its condition, a refusal or a return, and a run of steps by a node or a refusal: never by the number allowed.
-use mathlib.Core.Path.{_≡_, refl, _∙_, ap, subst}
+use mathlib.Core.Path.{_≡_, refl, _∙_, ap}
 use Prim.Native.Nat.{ℕ, zero, suc, _+_, _<_}
 use native.Mathlib.Omega.{arith}
 use mathlib.Core.Option.{Option, none, some}
 use mathlib.Core.List.{List}
 use lib.Dec.{leb}
-use Rattle.rules.specs.declared.Fields.{Fields}
 use Rattle.rules.specs.declared.Machine.{Machine}
 use Rattle.rules.specs.Syntax.{Expr}
-use Rattle.rules.specs.Reading.{exprAt, simpleAt}
 use Rattle.rules.specs.Expanding.{Step}
 use Rattle.rules.specs.Running.{Setting, Run, going, returned, stopped, Exec, Action, after, _>>_, perform, condition, loop, repeat, statement}
 use Rattle.rules.specs.Calling.{End, ended, halted, leads}
-use Rattle.rules.specs.Stepping.{leaving, with, decided, performed, advance, onward, taken, walk, walkFrom, lentSteps}
+use Rattle.rules.specs.Stepping.{Records, leaving, with, decided, performed, advance, onward, taken, walk, walkFrom}
 use Rattle.rules.specs.Demands.{LoopsEnd, RunsEnd}
 use Rattle.forms.proofs.Choosing.{done, _&_, if-by, choose-by}
 use Rattle.forms.proofs.Units.{Way, goes, either, limit, Later, Costs, wayOf, perform-costs, condition-costs, Grows, then-grows, perform-grows, statement-grows}
@@ -55,7 +53,7 @@ module _ (c : Setting) where
   abbrev Alike : Machine → (g h : ℕ → Machine → End) → Type 0
   Alike m g h = (n : ℕ) (v : Machine) → Later c 1 m v → g n v ≡ h n v
 
-  module _ (file : List ℕ) (steps : List Step) where
+  module _ (records : Records) (steps : List Step) where
     leads-same : {A : Type 0} (w : Way) (m : Machine) (d : A → ℕ) (t : ℕ) (g h : ℕ → Machine → End) → Alike m g h
         → (r : Run A) → Costs c 1 w m r → onward g (leads d t r) ≡ onward h (leads d t r)
     unfolding leads onward
@@ -71,7 +69,7 @@ module _ (c : Setting) where
     with-same w m f d t g h e k (some x) = leads-same (w x) m d t g h e (f x m) (k x)
 
     taken-same : (m : Machine) (g h : ℕ → Machine → End) → Alike m g h
-        → (o : Option Step) → taken file (c .fields) steps c g o m ≡ taken file (c .fields) steps c h o m
+        → (o : Option Step) → taken records (c .fields) steps c g o m ≡ taken records (c .fields) steps c h o m
     unfolding taken advance decided performed onward
     taken-same m g h e none = refl
     taken-same m g h e (some s) =
@@ -80,23 +78,23 @@ module _ (c : Setting) where
         Done : (x y : Machine → End) → Type 0
         Done x y = onward g (x m) ≡ onward h (y m)
 
-        decides : Done (decided file (c .fields) steps c s) (decided file (c .fields) steps c s)
-        decides = with-same (λ _. goes) m (condition c) _ _ g h e (λ x. condition-costs c x m) (exprAt file (c .fields .variables) (s .at))
+        decides : Done (decided records (c .fields) steps c s) (decided records (c .fields) steps c s)
+        decides = with-same (λ _. goes) m (condition c) _ _ g h e (λ x. condition-costs c x m) (records .expr (s .at))
 
-        performs : Done (performed file (c .fields) steps c s) (performed file (c .fields) steps c s)
-        performs = with-same wayOf m (perform c) _ _ g h e (λ x. perform-costs c x m) (simpleAt file (c .fields .variables) (s .at))
+        performs : Done (performed records (c .fields) steps c s) (performed records (c .fields) steps c s)
+        performs = with-same wayOf m (perform c) _ _ g h e (λ x. perform-costs c x m) (records .simple (s .at))
 
     -- one node more changes nothing
-    pub walk-more : (k n : ℕ) (m : Machine) → 0 < k → limit c < k + m .units → walk file (c .fields) steps c (suc k) n m ≡ walk file (c .fields) steps c k n m
+    pub walk-more : (k n : ℕ) (m : Machine) → 0 < k → limit c < k + m .units → walk records (c .fields) steps c (suc k) n m ≡ walk records (c .fields) steps c k n m
     unfolding walk
     walk-more zero n m p q = absurd (omega arith)
     walk-more (suc k) n m p q =
         if-by (λ (x y : Machine → End). x m ≡ y m) (leb n (c .fields .states)) {x = ended n} {y = ended n} refl
-        (taken-same m _ _ (λ t v l. walk-more k t v (omega arith) (omega arith)) (leaving file (c .fields) steps n))
+        (taken-same m _ _ (λ t v l. walk-more k t v (omega arith) (omega arith)) (leaving steps n))
 
-    walk-ends : (more n : ℕ) (m : Machine) → walk file (c .fields) steps c (limit c + 1 + more) n m ≡ walkFrom file (c .fields) steps c n m
+    walk-ends : (more n : ℕ) (m : Machine) → walk records (c .fields) steps c (limit c + 1 + more) n m ≡ walkFrom records (c .fields) steps c n m
     unfolding walkFrom
-    walk-ends more n m = any-more (λ k. walk file (c .fields) steps c k n m) (limit c) (λ k l. walk-more k n m (omega arith) (omega arith)) more
+    walk-ends more n m = any-more (λ k. walk records (c .fields) steps c k n m) (limit c) (λ k l. walk-more k n m (omega arith) (omega arith)) more
 
 -- ---- the theorems
 
@@ -107,6 +105,4 @@ loops-end c e s y more m = (
 )
 
 pub runs-end : RunsEnd
-runs-end file words a c more n m e =
-    subst (λ (f : Fields). walk file f (lentSteps a words) c (f .limit + 1 + more) n m ≡ walkFrom file f (lentSteps a words) c n m) e
-    (walk-ends c file (lentSteps a words) more n m)
+runs-end records steps c more n m = walk-ends c records steps more n m

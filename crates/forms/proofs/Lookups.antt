@@ -120,17 +120,17 @@ module _ (steps : List Step) (S : ℕ) where
   Two at o y z = Held o (step o y 2 0 at ∷ step o z 3 0 at ∷ [])
 
   module _ (file : List ℕ) (f : Fields) where
-    pub leaving-held : (p : ℕ) (s : Step) (l : List Step) → Held p (s ∷ l) → leaving file f steps p ≡ some s
+    pub leaving-held : (p : ℕ) (s : Step) (l : List Step) → Held p (s ∷ l) → leaving steps p ≡ some s
     unfolding leaving find
     leaving-held p s l h = find-from p (λ b _. b) (λ _. refl) steps ∙ ap (find (λ _. true)) (h .2)
 
     kind-held : (k at o y z : ℕ) (h : Two at o y z)
-        → stepFrom file f steps o k ≡ find (λ (s : Step). eqb (s .kind) k) (step o y 2 0 at ∷ step o z 3 0 at ∷ h .1)
+        → stepFrom steps o k ≡ find (λ (s : Step). eqb (s .kind) k) (step o y 2 0 at ∷ step o z 3 0 at ∷ h .1)
     unfolding stepFrom
     kind-held k at o y z h = find-from o (λ b s. b && eqb (s .kind) k) (λ _. refl) steps ∙ ap (find (λ (s : Step). eqb (s .kind) k)) (h .2)
 
     -- where a condition's value leads
-    pub branch-held : (at o y z : ℕ) → Two at o y z → (b : Bool) → targetIn (stepFrom file f steps o (if b then 2 else 3)) ≡ (if b then y else z)
+    pub branch-held : (at o y z : ℕ) → Two at o y z → (b : Bool) → targetIn (stepFrom steps o (if b then 2 else 3)) ≡ (if b then y else z)
     unfolding targetIn find
     branch-held at o y z h true = ap targetIn (kind-held 2 at o y z h)
     branch-held at o y z h false = ap targetIn (kind-held 3 at o y z h)

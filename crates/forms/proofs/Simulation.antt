@@ -15,7 +15,7 @@ use Rattle.rules.specs.Reading.{exprAt, simpleAt}
 use Rattle.rules.specs.Expanding.{Step, step, stepOf, stepKind, targetOf, joints, made}
 use Rattle.rules.specs.Running.{Setting, Run, going, returned, stopped, Action, after, _>>=_, _>>_, skip, perform, condition, loop, repeat, statement, statements}
 use Rattle.rules.specs.Calling.{End, halted, leads}
-use Rattle.rules.specs.Stepping.{stepFrom, targetIn, with, decided, performed, advance, onward, taken, walk, walkFrom}
+use Rattle.rules.specs.Stepping.{recordsIn, stepFrom, targetIn, with, decided, performed, advance, onward, taken, walk, walkFrom}
 use Rattle.forms.proofs.Units.{goes, either, MayGo, MayReturn, limit, Later, Costs, wayOf, perform-costs, condition-costs, Grows, then-grows, perform-grows, statement-grows}
 use Rattle.forms.proofs.Endings.{walk-more}
 use Rattle.forms.proofs.Lookups.{Held, One, Two, Wired, Wireds, leaving-held, branch-held}
@@ -27,7 +27,7 @@ module _ (c : Setting) (file : List ℕ) (steps : List Step) where
 
   -- the walk from a node
   abbrev pub W : ℕ → Machine → End
-  W = walkFrom file f steps c
+  W = walkFrom (recordsIn file (f .variables)) f steps c
 
   -- where the walk goes on after an action to d with return node r
   abbrev pub onFrom : (d r : ℕ) → Run (Unit {0}) → End
@@ -42,16 +42,16 @@ module _ (c : Setting) (file : List ℕ) (steps : List Step) where
   -- ---- one step
 
   at-step : (p : ℕ) (s : Step) (l : List Step) → Held steps (f .states) p (s ∷ l) → (m : Machine)
-      → W p m ≡ onward (walk file f steps c (limit c)) (advance file f steps c s m)
+      → W p m ≡ onward (walk (recordsIn file (f .variables)) f steps c (limit c)) (advance (recordsIn file (f .variables)) f steps c s m)
   unfolding walkFrom walk taken
   at-step p s l h m = rw (lt-leb p (f .states) (h .0), leaving-held steps (f .states) file f p s l h)
 
   -- after a step the limit is enough nodes
-  on-W : (p : ℕ) (m v : Machine) → Later c 1 m v → walk file f steps c (limit c) p v ≡ W p v
+  on-W : (p : ℕ) (m v : Machine) → Later c 1 m v → walk (recordsIn file (f .variables)) f steps c (limit c) p v ≡ W p v
   unfolding walkFrom
-  on-W p m v h = sym (walk-more c file steps (limit c) p v (omega arith) (omega arith))
+  on-W p m v h = sym (walk-more c (recordsIn file (f .variables)) steps (limit c) p v (omega arith) (omega arith))
 
-  performs : (at : ℕ) (x : Simple) (o d r : ℕ) → advance file f steps c (stepOf at x o d r) ≡ performed file f steps c (stepOf at x o d r)
+  performs : (at : ℕ) (x : Simple) (o d r : ℕ) → advance (recordsIn file (f .variables)) f steps c (stepOf at x o d r) ≡ performed (recordsIn file (f .variables)) f steps c (stepOf at x o d r)
   unfolding advance choose stepOf stepKind
   performs at (set t e) o d r = refl
   performs at (transfer k e) o d r = refl
@@ -83,7 +83,7 @@ module _ (c : Setting) (file : List ℕ) (steps : List Step) where
       t : ℕ
       t = targetOf x d r
 
-      go : (y : Run (Unit {0})) → Costs c 1 (wayOf x) m y → onward (walk file f steps c (limit c)) (leads (λ _. t) t y) ≡ onFrom d r y
+      go : (y : Run (Unit {0})) → Costs c 1 (wayOf x) m y → onward (walk (recordsIn file (f .variables)) f steps c (limit c)) (leads (λ _. t) t y) ≡ onFrom d r y
       go (going u v) g = on-W t m v (g .1) ∙ ap (λ (n : ℕ). W n v) (goes-to x d r (g .0))
       go (returned v) g = on-W t m v (g .1) ∙ ap (λ (n : ℕ). W n v) (returns-to x d r (g .0))
       go (stopped i v) g = refl
@@ -97,12 +97,12 @@ module _ (c : Setting) (file : List ℕ) (steps : List Step) where
       ∙ rw q (go (condition c e m) (condition-costs c e m))
     where
       to : Bool → ℕ
-      to t = targetIn (stepFrom file f steps o (if t then 2 else 3))
+      to t = targetIn (stepFrom steps o (if t then 2 else 3))
 
       at-node : (t : Bool) (v : Machine) → W (to t) v ≡ W (if t then y else z) v
       at-node t v = ap (λ (n : ℕ). W n v) (branch-held steps (f .states) file f at o y z h t)
 
-      go : (x : Run Bool) → Costs c 1 goes m x → onward (walk file f steps c (limit c)) (leads to y x) ≡ onFrom d r (after x (λ t. if t then a else b))
+      go : (x : Run Bool) → Costs c 1 goes m x → onward (walk (recordsIn file (f .variables)) f steps c (limit c)) (leads to y x) ≡ onFrom d r (after x (λ t. if t then a else b))
       go (going true v) g = on-W (to true) m v (g .1) ∙ at-node true v ∙ ha v (omega arith) (omega arith)
       go (going false v) g = on-W (to false) m v (g .1) ∙ at-node false v ∙ hb v (omega arith) (omega arith)
       go (returned v) g = absurd (g .0)

@@ -205,7 +205,7 @@ module _ (file : List ℕ) (a : Agreement) (ok : Good file a) where
       mine : (p : ℕ) → S + 1 ≤ p → p < n₂ → S + 2 ≢ p → (S + 3 ≤ p → p < n₁ → ⊥) → Same T F p
       mine p l u h k = same-second T I F p (initial-away p h k) (before-same p (omega arith) u)
 
-  pub entry-is : (name st : ℕ) → Entry file (f .variables) S T (entryOf file f T name st) (transitionOf a name st)
+  pub entry-is : (name st : ℕ) → Entry file (f .variables) S T (entryOf T name st) (transitionOf a name st)
   unfolding entryOf transitionOf
   entry-is name st =
       rw (ap (find (isEntry name st)) parts ∙ find-quiet (isEntry name st) (λ s e. rw e) (I ++ F) R actions-quiet)
@@ -216,6 +216,6 @@ module _ (file : List ℕ) (a : Agreement) (ok : Good file a) where
           same-second T (I ++ F) R p (all-append I F (initial-away p (omega arith) (omega arith)) (fallback-away p (omega arith) (omega arith)))
           (ap (from p) parts)
 
-  pub known-is : (name : ℕ) → entryKnown file f T name ≡ known a name
+  pub known-is : (name : ℕ) → entryKnown T name ≡ known a name
   unfolding entryKnown known
   known-is name = ap (any (isNamed name)) parts ∙ any-quiet (isNamed name) (λ s e. rw e) (I ++ F) R actions-quiet ∙ known-same name (a .transitions) n₂

@@ -15,11 +15,11 @@ use Rattle.rules.specs.declared.State.{State}
 use Rattle.rules.specs.declared.Verdict.the-variants as verdicts
 use Rattle.rules.specs.Basics.{sum}
 use Rattle.rules.specs.Syntax.{Expr, Simple, Stmt, Rule, Agreement}
-use Rattle.rules.specs.Expanding.{expansion, table}
+use Rattle.rules.specs.Expanding.{Step, expansion, table}
 use Rattle.rules.specs.Accepting.{good, fileOf, lent, tooFew, written, expandFile}
 use Rattle.rules.specs.Running.{Setting, _>>=_, _>>_, perform, condition, loop, repeat, statement}
 use Rattle.rules.specs.Calling.{total, unfit, zeroState, start, call, runList}
-use Rattle.rules.specs.Stepping.{beginsWith, startExpanded, callExpanded, walk, walkFrom, runListExpanded, lentSteps}
+use Rattle.rules.specs.Stepping.{beginsWith, startExpanded, callExpanded, Records, walk, walkFrom, runListExpanded}
 use Rattle.rules.specs.Lists.{listsTo, At, Within, Before}
 use Rattle.rules.specs.Judging.{isCompleted, Ruling, broken, held, spent, breaking, listsFor, ruling, judgedOf, verdict}
 
@@ -139,6 +139,5 @@ LoopsEnd =
 -- What ends a run of steps is a node from 0 to S or a refusal, and never the number of nodes that `walkFrom` allows.
 abbrev pub RunsEnd : Type 0
 RunsEnd =
-    (file words : List ℕ) (a : Agreement) (c : Setting) (more node : ℕ) (m : Machine)
-    → c .fields ≡ a .fields
-    → walk file (a .fields) (lentSteps a words) c (a .fields .limit + 1 + more) node m ≡ walkFrom file (a .fields) (lentSteps a words) c node m
+    (records : Records) (steps : List Step) (c : Setting) (more node : ℕ) (m : Machine)
+    → walk records (c .fields) steps c (c .fields .limit + 1 + more) node m ≡ walkFrom records (c .fields) steps c node m

@@ -14,7 +14,7 @@ use Rattle.rules.specs.declared.Machine.{Machine}
 use Rattle.rules.specs.declared.Outcome.{Outcome}
 use Rattle.rules.specs.declared.State.{State}
 use Rattle.rules.specs.Basics.{if_then_else_, choose, firstOf, given, any, find, isNone}
-use Rattle.rules.specs.Syntax.{Agreement}
+use Rattle.rules.specs.Syntax.{Expr, Simple, Agreement}
 use Rattle.rules.specs.Reading.{exprAt, simpleAt}
 use Rattle.rules.specs.Expanding.{Step, expansion, table, stepsIn, fallbackEnd, fallbackEntry, initialEntry}
 use Rattle.rules.specs.Accepting.{refusal, fileOf, onFile, tooFew}
@@ -35,35 +35,48 @@ unfoldable pub onward : (ℕ → Machine → End) → End → End
 onward g (ended n m) = g n m
 onward g (halted i m) = halted i m
 
-module _ (file : List ℕ) (f : Fields) (steps : List Step) where
-  -- the step of a kind that leaves a node; the first step that leaves a node
-  unfoldable pub stepFrom : (node kind : ℕ) → Option Step
-  stepFrom n k = find (λ (s : Step). eqb (s .origin) n && eqb (s .kind) k) steps
+-- the step of a kind that leaves a node; the first step that leaves a node
+unfoldable pub stepFrom : List Step → (node kind : ℕ) → Option Step
+stepFrom steps n k = find (λ (s : Step). eqb (s .origin) n && eqb (s .kind) k) steps
 
-  unfoldable pub leaving : (node : ℕ) → Option Step
-  leaving n = find (λ (s : Step). eqb (s .origin) n) steps
+unfoldable pub leaving : List Step → (node : ℕ) → Option Step
+leaving steps n = find (λ (s : Step). eqb (s .origin) n) steps
 
-  -- "the kind 1 step of its name and present state"; whether a kind 1 step has the name
-  unfoldable pub entryOf : (name state : ℕ) → Option Step
-  entryOf name n = find (λ (s : Step). eqb (s .kind) 1 && eqb (s .name) name && eqb (s .origin) n) steps
+-- "the kind 1 step of its name and present state"; whether a kind 1 step has the name
+unfoldable pub entryOf : List Step → (name state : ℕ) → Option Step
+entryOf steps name n = find (λ (s : Step). eqb (s .kind) 1 && eqb (s .name) name && eqb (s .origin) n) steps
 
-  unfoldable pub entryKnown : (name : ℕ) → Bool
-  entryKnown name = any (λ (s : Step). eqb (s .kind) 1 && eqb (s .name) name) steps
+unfoldable pub entryKnown : List Step → (name : ℕ) → Bool
+entryKnown steps name = any (λ (s : Step). eqb (s .kind) 1 && eqb (s .name) name) steps
 
+-- the records at file offsets
+pub record Records : Type 0 where
+  pub expr : (at : ℕ) → Option Expr
+  pub simple : (at : ℕ) → Option Simple
+
+abbrev pub recordsIn : (file : List ℕ) (vars : ℕ) → Records
+recordsIn file vars = record { expr = exprAt file vars; simple = simpleAt file vars }
+
+-- "The last node becomes the state; S keeps the state of before."
+unfoldable pub settled : Setting → End → End
+settled c (ended n m) = ended (if eqb n (fallbackEnd (c .fields)) then c .before else n) m
+settled c (halted i m) = halted i m
+
+module _ (records : Records) (f : Fields) (steps : List Step) where
   module _ (c : Setting) where
     -- a guard's step, and where it leads
     unfoldable pub admitted : Step → Machine → End
-    admitted s m = leads (λ _. s .target) (s .target) (with (guarded c) (exprAt file (f .variables) (s .at)) m)
+    admitted s m = leads (λ _. s .target) (s .target) (with (guarded c) (records .expr (s .at)) m)
 
     -- "of a condition's two the one its value names"; "the two steps of one condition share one evaluation and one unit"
     unfoldable pub decided : Step → Machine → End
     decided s m =
-        leads (λ b. targetIn (stepFrom (s .origin) (if b then 2 else 3))) (s .target)
-        (with (condition c) (exprAt file (f .variables) (s .at)) m)
+        leads (λ b. targetIn (stepFrom steps (s .origin) (if b then 2 else 3))) (s .target)
+        (with (condition c) (records .expr (s .at)) m)
 
     -- a statement's step; a return too goes on at the step's target
     unfoldable pub performed : Step → Machine → End
-    performed s m = leads (λ _. s .target) (s .target) (with (perform c) (simpleAt file (f .variables) (s .at)) m)
+    performed s m = leads (λ _. s .target) (s .target) (with (perform c) (records .simple (s .at)) m)
 
     -- "Kinds: 2 condition true, 3 condition false, 4 set, 5 transfer, 6 require, 7 return."
     unfoldable pub advance : Step → Machine → End
@@ -80,7 +93,7 @@ module _ (file : List ℕ) (f : Fields) (steps : List Step) where
     -- at its target." At most k nodes.
     unfoldable pub walk : (k node : ℕ) → Machine → End
     walk zero n = halted 26
-    walk (suc k) n = if leb n (fallbackEnd f) then ended n else taken (walk k) (leaving n)
+    walk (suc k) n = if leb n (fallbackEnd f) then ended n else taken (walk k) (leaving steps n)
 
     -- Each step charges a unit, so a run ends or is refused before it could reach more nodes than the limit and one.
     unfoldable pub walkFrom : (node : ℕ) → Machine → End
@@ -91,19 +104,14 @@ module _ (file : List ℕ) (f : Fields) (steps : List Step) where
     walkBy none m = walkFrom (fallbackEntry f) m
     walkBy (some s) m = onward walkFrom (admitted s m)
 
-    -- "The last node becomes the state; S keeps the state of before."
-    unfoldable pub settled : End → End
-    settled (ended n m) = ended (if eqb n (fallbackEnd f) then c .before else n) m
-    settled (halted i m) = halted i m
-
   -- "A start enters at S+2."
   unfoldable pub startSteps : Outcome
   startSteps = startBy f (λ c m. settled c (walkFrom c (initialEntry f) m))
 
   unfoldable pub callSteps : (lent : List (Bool × ℕ)) → State → Call → Outcome
   callSteps lent s k =
-      let e = entryOf (k .name) (s .state) in
-      callBy f (callTests f s k lent (entryKnown (k .name) && isNone e)) (λ c m. settled c (walkBy c e m)) s k
+      let e = entryOf steps (k .name) (s .state) in
+      callBy f (callTests f s k lent (entryKnown steps (k .name) && isNone e)) (λ c m. settled c (walkBy c e m)) s k
 
 unfoldable pub beginsWith : (words front : List ℕ) → Bool
 beginsWith ws [] = true
@@ -124,14 +132,14 @@ startExpanded file words =
     onFile (λ r. refusedStart r 0)
     (λ a.
     given (λ n. refusedStart (refusal n) 0)
-    (λ _. startSteps file (a .fields) (lentSteps a words))
+    (λ _. startSteps (recordsIn file (a .fields .variables)) (a .fields) (lentSteps a words))
     (firstOf (lentTests a words)))
     (fileOf file)
 
 unfoldable pub callExpanded : (file words : List ℕ) → State → Call → Outcome
 callExpanded file words s k =
     onFile (λ r. refusedCall r 0 s)
-    (λ a. callSteps file (a .fields) (lentSteps a words) (lentTests a words) s k)
+    (λ a. callSteps (recordsIn file (a .fields .variables)) (a .fields) (lentSteps a words) (lentTests a words) s k)
     (fileOf file)
 
 unfoldable pub runListExpanded : (file words : List ℕ) → List Call → List Outcome
