@@ -109,6 +109,9 @@ module _ (file : List ℕ) (a : Agreement) (ok : Good file a) where
 -- ---- on an accepted file
 
 module _ (file : List ℕ) (a : Agreement) (e : fileOf file ≡ good a) where
+  abbrev onSteps : (lent : List (Bool × ℕ)) → State → Call → Outcome
+  onSteps = callSteps (recordsIn file (a .fields .variables)) (a .fields) (expansion a)
+
   -- on the steps of the expansion a start and a call do what they do unexpanded
   pub start-steps : startSteps (recordsIn file (a .fields .variables)) (a .fields) (expansion a) ≡ startTree a
   start-steps = start-same file a (file-good file a e)
@@ -123,7 +126,7 @@ module _ (file : List ℕ) (a : Agreement) (e : fileOf file ≡ good a) where
     start-lent = rw (e, lent-pass words a h, lent-steps words a h) start-steps
 
     -- the tests of the lent words refuse nothing
-    call-tests : (s : State) (k : Call) → callSteps (recordsIn file (a .fields .variables)) (a .fields) (expansion a) (lentTests a words) s k ≡ callSteps (recordsIn file (a .fields .variables)) (a .fields) (expansion a) [] s k
+    call-tests : (s : State) (k : Call) → onSteps (lentTests a words) s k ≡ onSteps [] s k
     unfolding callSteps callBy
     call-tests s k = ap (given _ _) (lent-call-pass words a h s k _)
 
