@@ -1,0 +1,2 @@
+-- Runs as the code has them.
+pub mod Flows
