@@ -1,0 +1,13 @@
+-- A file that was read.
+use Prim.Native.Nat.{ℕ}
+use mathlib.Core.List.{List}
+use mathlib.Core.Path.{_≡_}
+use Rattle.rules.specs.Syntax.{Agreement}
+use Rattle.rules.specs.Reading.{read, readTree}
+
+-- the tree of a file that no refusal from 1 to 5 meets
+pub record TreeRead (file : List ℕ) : Type 0 where
+  pub tree : Agreement
+  pub to : ℕ
+  pub left : List ℕ
+  pub is : readTree file ≡ read tree to left
