@@ -113,14 +113,25 @@ module _ (vars : ℕ) (inRule : Bool) where
   inside-body : {e : Reader Expr} → Inside e → (kind : ℕ) → Inside (expressionBody vars inRule e kind)
   unfolding expressionBody
   inside-body h kind =
-      inside-choose kind _
-      (inside-then (inside-field 4) (λ n. inside-pure _),
-      (ranged-then 2 _ (λ i. inside-pure _),
-      (inside-if inRule (inside-refuse 3) (ranged-then 2 _ (λ i. inside-pure _)),
-      (inside-if inRule (inside-refuse 3) (ranged-then 2 _ (λ i. inside-pure _)),
-      (ranged-then 2 _ (λ i. inside-pure _),
-      (ranged-then 2 _ (λ o. inside-then h λ x. inside-then h λ y. inside-pure _),
-      (inside-then h (λ x. inside-pure _), tt)))))))
+      inside-choose kind _ (
+        inside-then (inside-field 4) (λ n. inside-pure _),
+        (
+          ranged-then 2 _ (λ i. inside-pure _),
+          (
+            inside-if inRule (inside-refuse 3) (ranged-then 2 _ (λ i. inside-pure _)),
+            (
+              inside-if inRule (inside-refuse 3) (ranged-then 2 _ (λ i. inside-pure _)),
+              (
+                ranged-then 2 _ (λ i. inside-pure _),
+                (
+                  ranged-then 2 _ (λ o. inside-then h λ x. inside-then h λ y. inside-pure _),
+                  (inside-then h (λ x. inside-pure _), tt),
+                ),
+              ),
+            ),
+          ),
+        ),
+      )
       (inside-refuse 3)
 
   inside-expression : (levels : ℕ) → Inside (expression vars inRule levels)
@@ -154,17 +165,34 @@ module _ (vars : ℕ) where
       → (kind : ℕ) → Inside (statementBody vars e l s kind)
   unfolding statementBody simples
   inside-statement-body e l s kind =
-      inside-choose kind _
-      (inside-placed (inside-set e) 16,
-      (inside-placed (inside-then e λ x. inside-then e λ y. inside-pure _) 17,
-      (inside-placed (inside-then e λ x. inside-pure _) 18,
-      (inside-placed (inside-then e λ x. inside-pure _) 19,
-      (inside-then (inside-peek (λ start at left. length left)) (λ n. inside-then (inside-statements n s) λ ss. inside-pure (block ss)),
-      (inside-then here (λ c. inside-then e λ x. inside-then s λ y. inside-pure _),
-      (inside-then here (λ c. inside-then e λ x. inside-then s λ y. inside-then s λ z. inside-pure _),
-      (inside-then here (λ c. inside-then e λ x. inside-then s λ y. inside-pure _),
-      (inside-then here (λ a. inside-then l λ i. inside-then here λ c. inside-then e λ x. inside-then here λ b. inside-then l λ k. inside-then s λ y. inside-pure _),
-      tt)))))))))
+      inside-choose kind _ (
+        inside-placed (inside-set e) 16,
+        (
+          inside-placed (inside-then e λ x. inside-then e λ y. inside-pure _) 17,
+          (
+            inside-placed (inside-then e λ x. inside-pure _) 18,
+            (
+              inside-placed (inside-then e λ x. inside-pure _) 19,
+              (
+                inside-then (inside-peek (λ start at left. length left)) (λ n. inside-then (inside-statements n s) λ ss. inside-pure (block ss)),
+                (
+                  inside-then here (λ c. inside-then e λ x. inside-then s λ y. inside-pure _),
+                  (
+                    inside-then here (λ c. inside-then e λ x. inside-then s λ y. inside-then s λ z. inside-pure _),
+                    (
+                      inside-then here (λ c. inside-then e λ x. inside-then s λ y. inside-pure _),
+                      (
+                        inside-then here (λ a. inside-then l λ i. inside-then here λ c. inside-then e λ x. inside-then here λ b. inside-then l λ k. inside-then s λ y. inside-pure _),
+                        tt,
+                      ),
+                    ),
+                  ),
+                ),
+              ),
+            ),
+          ),
+        ),
+      )
       (inside-refuse 3)
     where
       here : Inside {A = ℕ} (λ start at left. read at at left)
