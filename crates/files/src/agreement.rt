@@ -2,9 +2,9 @@
 use crate::fields::check_fields;
 use crate::groups::check_groups;
 use crate::members::add;
-use crate::members::then_action;
 use crate::values::byte;
 use records::Checked;
+use records::statements::then_statement;
 ghost use mathlib.Core.Path.{_≡_};
 ghost use Prim.Native.Nat.{_+_, _^_, _<_};
 ghost use lib.ListN.{length};
@@ -18,8 +18,8 @@ pub fn check_agreement(b: &[u8]) -> Checked
     ensures { λ r. ⌜ r ≡ outcome treeSteps (agreementBody 0 4 (now (b .entry))) ⌝ }
 {
     let vars = byte(b, 1);
-    let initial = then_action(b, 4, check_fields(b), 15, vars);
-    let fallback = then_action(b, 4, initial, 15, vars);
+    let initial = then_statement(b, 4, check_fields(b), 15, vars);
+    let fallback = then_statement(b, 4, initial, 15, vars);
     then_groups(b, fallback)
 }
 

@@ -10,13 +10,12 @@ use crate::values::half;
 use records::Checked;
 use records::answers::counted;
 use records::expressions::then_expression;
-use records::statements::check_statement;
+use records::statements::then_statement;
 ghost use mathlib.Core.Path.{_≡_};
-ghost use Prim.Native.Nat.{ℕ, _+_, _^_, _<_};
+ghost use Prim.Native.Nat.{_+_, _^_, _<_};
 ghost use lib.ListN.{length};
-ghost use Rattle.rules.specs.Reading.{statement, transitionBody, rowBody, ruleBody};
-ghost use Rattle.records.specs.Checking.{outcome, noSteps, onward, added, Within};
-ghost use Rattle.records.specs.Counting.{stepCount};
+ghost use Rattle.rules.specs.Reading.{transitionBody, rowBody, ruleBody};
+ghost use Rattle.records.specs.Checking.{outcome, noSteps, added};
 ghost use Rattle.files.specs.Answers.{stepsOf};
 ghost use Rattle.files.specs.Members.{transitionHead, ruleHead, one, transitionSteps, namesIn, member, itself};
 
@@ -28,20 +27,6 @@ pub fn add(steps: usize, c: Checked) -> Checked
     match c {
         Checked::Refused(k, p) => Checked::Refused(k, p),
         Checked::Ok(m, k) => Checked::Ok(m, steps + k),
-    }
-}
-
-// c was read from s at `at`; an action follows it.
-pub fn then_action(s: &[u8], at: usize, c: Checked, levels: usize, vars: usize) -> Checked
-    requires { ⌜ (at + length (now s) < 2 ^ 32) × Within at (length (now s)) c ⌝ }
-    ensures { λ r. ⌜ ((start : ℕ) → r ≡ onward stepCount (statement vars levels) start at (now (s .entry)) c) ⌝ }
-{
-    match c {
-        Checked::Refused(k, p) => Checked::Refused(k, p),
-        Checked::Ok(m, steps) => {
-            let i = m - at;
-            add(steps, check_statement(&s[i..], m, levels, vars))
-        }
     }
 }
 
@@ -62,7 +47,7 @@ fn check_transition(b: &[u8], at: usize, states: usize, vars: usize) -> Checked
 {
     let head = check_transition_head(b, at, states);
     let guard = then_expression(b, at + 4, head, 14, vars, false);
-    then_action(b, at + 4, guard, 14, vars)
+    then_statement(b, at + 4, guard, 14, vars)
 }
 
 fn check_row(b: &[u8], at: usize, accounts: usize) -> Checked

@@ -15,15 +15,15 @@ then-expression-requires c κs =
     let a = c .before .before .args in
     (omega arith, rw (c .check-transition-head .ensures) (steady-within (steady-transition-head (a .states)) (a .at) (a .at + 4) (now (a .b))))
 
-then-action-requires : tie.Need-then-action-requires
-then-action-requires c κs =
+then-statement-requires : tie.Need-then-statement-requires
+then-statement-requires c κs =
     let a = c .before .before .before .args in
     (omega arith, rw (c .then-expression .ensures (a .at), c .before .check-transition-head .ensures) (guard-within (a .at) (now (a .b)) (a .states) (a .vars)))
 
 returns : tie.Need-returns
 returns c =
     let a = c .before .before .before .before .args in
-    rw (c .then-action .ensures (a .at), c .before .then-expression .ensures (a .at), c .before .before .check-transition-head .ensures)
+    rw (c .then-statement .ensures (a .at), c .before .then-expression .ensures (a .at), c .before .before .check-transition-head .ensures)
     (sym (transition-onward (a .at) (now (a .b)) (a .states) (a .vars)))
 
 pub check-transition-spec : {M : Type 1} → statement M
@@ -34,5 +34,5 @@ check-transition-spec =
     (λ c. search needs)
     then-expression-requires
     (λ c. search needs)
-    then-action-requires
+    then-statement-requires
     returns)
