@@ -1,4 +1,5 @@
 // The steps of a statement record s at the offset `at`, written from the i-th step on; node is the next new node.
+// For our own crates only: a caller has to see that the record is accepted and that the words have room.
 use crate::Ends;
 use crate::Next;
 use crate::writing::write_condition;

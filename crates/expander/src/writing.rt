@@ -1,4 +1,5 @@
 // Single steps.
+// For our own crates only: a caller has to see that the words have room.
 use crate::Next;
 ghost use mathlib.Core.Path.{_≡_};
 ghost use mathlib.Core.List.{[], _∷_};

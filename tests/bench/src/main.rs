@@ -2,6 +2,7 @@
 //! format, on random agreements and on damaged files. usage: bench COUNT SEED
 //! Every call of the library runs on a stack of 256 KiB. The last line is 'N passed, M failed'.
 
+mod least;
 mod library;
 mod tally;
 
@@ -27,24 +28,35 @@ fn expected(file: &[u8]) -> [u32; 2] {
     }
 }
 
-/// The name of each file, and the file.
-fn corpus(count: u64, seed: u64) -> Vec<(String, Vec<u8>)> {
-    let limits = limit_files().into_iter().map(|l| (format!("limit file '{}'", l.label), l.bytes));
-    let random = (seed..seed + count).map(|s| (format!("random file {s}"), file(s)));
-    let bad = (seed..seed + count).map(|s| (format!("damaged file {s}"), damaged(s)));
-    limits.chain(random).chain(bad).collect()
+/// A file, its name, and the refusal that it is written down to meet, where one is.
+struct Case {
+    name: String,
+    bytes: Vec<u8>,
+    refusal: Option<u32>,
+}
+
+fn corpus(count: u64, seed: u64) -> Vec<Case> {
+    let case = |name: String, bytes, refusal| Case { name, bytes, refusal };
+    let limits = limit_files().into_iter().map(|l| case(format!("limit file '{}'", l.label), l.bytes, Some(l.refusal as u32)));
+    let least = least::least_files().into_iter().map(|(label, bytes)| case(format!("least file '{label}'"), bytes, Some(0)));
+    let random = (seed..seed + count).map(|s| case(format!("random file {s}"), file(s), None));
+    let bad = (seed..seed + count).map(|s| case(format!("damaged file {s}"), damaged(s), None));
+    limits.chain(least).chain(random).chain(bad).collect()
 }
 
 fn main() {
     let arguments: Vec<u64> = std::env::args().skip(1).map(|a| a.parse().expect("COUNT SEED")).collect();
     let [count, seed] = arguments[..] else { panic!("usage: bench COUNT SEED") };
     let files = corpus(count, seed);
-    let answers = on_small_stack(|| files.iter().map(|(_, bytes)| library::read(bytes)).collect::<Vec<_>>());
+    let answers = on_small_stack(|| files.iter().map(|c| library::read(&c.bytes)).collect::<Vec<_>>());
     let mut tally = Tally::new();
-    for ((name, bytes), answer) in files.iter().zip(answers) {
-        let right = expected(bytes);
+    for (case, answer) in files.iter().zip(answers) {
+        let right = expected(&case.bytes);
         tally.meet(right[0]);
-        tally.compare(&format!("reading {name}"), answer, right, bytes);
+        tally.compare(&format!("reading {}", case.name), answer, right, &case.bytes);
+        if let Some(refusal) = case.refusal {
+            tally.compare(&format!("the refusal written down for {}", case.name), answer[0], refusal, &case.bytes);
+        }
     }
     tally.report();
     exit(i32::from(tally.failed != 0));

@@ -21,7 +21,9 @@ enum-known-n c = search needs
 
 refused-requires : tie.Need-refused-requires
 refused-requires c κs =
-    let e = gone treeSteps (readTree (now (c .before .before .before .before .before .args .file))) (sym (c .before .n .given .1) ∙ c .before .before .before .check-file .ensures) in
+    let e =
+    gone treeSteps (readTree (now (c .before .before .before .before .before .args .file)))
+    (sym (c .before .n .given .1) ∙ c .before .before .before .check-file .ensures) in
     omega (arith, place-small _ _ _ e)
 
 enum-known-steps : tie.Need-enum-known-steps
@@ -29,19 +31,25 @@ enum-known-steps c = search needs
 
 accepted-requires : tie.Need-accepted-requires
 accepted-requires c κs =
-    let e = came treeSteps (readTree (now (c .before .before .before .before .before .args .file))) (sym (c .before .steps .given .1) ∙ c .before .before .before .check-file .ensures) in
+    let e =
+    came treeSteps (readTree (now (c .before .before .before .before .before .args .file)))
+    (sym (c .before .steps .given .1) ∙ c .before .before .before .check-file .ensures) in
     record { tree = e .0; to = _; left = e .1; is = e .2 }
 
 returns : tie.Need-returns
 unfolding readFile fileOf accepted onFile
 returns c =
-    let e = gone treeSteps (readTree (now (c .before .before .before .before .before .before .args .file))) (sym (c .before .before .n .given .1) ∙ c .before .before .before .before .check-file .ensures) in
+    let e =
+    gone treeSteps (readTree (now (c .before .before .before .before .before .before .args .file)))
+    (sym (c .before .before .n .given .1) ∙ c .before .before .before .before .check-file .ensures) in
     rw (c .refused .ensures, e)
 
 returns-2 : tie.Need-returns-2
 unfolding readFile fileOf accepted onFile
 returns-2 c =
-    let e = came treeSteps (readTree (now (c .before .before .before .before .before .before .args .file))) (sym (c .before .before .steps .given .1) ∙ c .before .before .before .before .check-file .ensures) in
+    let e =
+    came treeSteps (readTree (now (c .before .before .before .before .before .before .args .file)))
+    (sym (c .before .before .steps .given .1) ∙ c .before .before .before .before .check-file .ensures) in
     rw (e .2) (c .accepted .ensures (record { tree = e .0; to = _; left = e .1; is = e .2 }) (sym (e .3)))
 
 pub read-spec : {M : Type 1} → statement M
