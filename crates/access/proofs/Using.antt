@@ -14,7 +14,9 @@ use Rattle.rules.specs.Basics.{if_then_else_, given, find, sum, most32}
 use Rattle.rules.specs.Syntax.{Expr, Stmt, Transition, Rule, always, notAfter, onlyAfter, Agreement}
 use Rattle.rules.specs.Reading.{Reading, refused, read, expression, statement, readTree}
 use Rattle.rules.specs.Expanding.{expansion}
-use Rattle.rules.specs.Accepting.{bad, good, refusalAt, firstRepeat, sized, accept, accepted, fileOf}
+use Rattle.rules.specs.declared.Counted.the-variants.{Steps, Refused}
+use Rattle.rules.specs.declared.Refusal.{Refusal}
+use Rattle.rules.specs.Accepting.{File, bad, good, refusalAt, firstRepeat, sized, accept, accepted, fileOf, onFile, readFile}
 use Rattle.rules.specs.Calling.{known, transitionOf, noCall}
 use Rattle.rules.specs.Demands.{All, none, more}
 use Rattle.records.specs.Acceptance.{Accepted, Good}
@@ -24,7 +26,7 @@ use Rattle.access.specs.declared.Found.the-variants.{Unknown, Elsewhere,
 use Rattle.access.specs.declared.Group.{Group}
 use Rattle.access.specs.declared.Head.{Head}
 use Rattle.access.specs.declared.Layout.{Layout}
-use Rattle.access.specs.Trees.{TreeRead}
+use Rattle.access.specs.Trees.{TreeRead, AcceptedFile}
 use Rattle.access.specs.Places.{past, Laid, actionAt}
 use Rattle.access.specs.Answers.{foundOf, same, headOf}
 use Rattle.access.proofs.Heads.{Bounded}
@@ -55,6 +57,23 @@ accepted-read file a h = go (readTree file) refl h
     go : (r : Reading Agreement) → readTree file ≡ r → accepted r ≡ good a → (t : TreeRead file) × (t .tree ≡ a)
     go (refused n p) e h = absurd (let z : _≡_ {A = ℕ} 0 1 = cc in omega arith)
     go (read b to left) e h = (record { tree = b; to = to; left = left; is = e }, accept-tree b a h)
+
+-- a file whose steps were counted is accepted
+pub counted-file : (file : List ℕ) (n : ℕ) → Steps n ≡ readFile file → (a : AcceptedFile file) × (n ≡ length (expansion (a .tree)))
+unfolding readFile onFile
+counted-file file n h = go (fileOf file) refl h
+  where
+    go : (f : File) → fileOf file ≡ f → Steps n ≡ onFile Refused (λ a. Steps (length (expansion a))) f → (a : AcceptedFile file) × (n ≡ length (expansion (a .tree)))
+    go (bad r) e h = absurd (let z : _≡_ {A = ℕ} 0 1 = cc in omega arith)
+    go (good a) e h = (record { tree = a; is = e }, cc)
+
+pub refused-file : (file : List ℕ) (r : Refusal) → Refused r ≡ readFile file → fileOf file ≡ bad r
+unfolding readFile onFile
+refused-file file r h = go (fileOf file) h
+  where
+    go : (f : File) → Refused r ≡ onFile Refused (λ a. Steps (length (expansion a))) f → f ≡ bad r
+    go (bad x) h = cc
+    go (good a) h = absurd (let z : _≡_ {A = ℕ} 0 1 = cc in omega arith)
 
 pub record Bounds (file : List ℕ) (a : Agreement) : Type 0 where
   pub size : length file ≤ 32768
