@@ -157,6 +157,12 @@ pub transition-length : (t : Transition) (n : ℕ) → length (transitionSteps t
 unfolding transitionSteps
 transition-length t n = omega (arith, expand-length (t .action) n (t .to) (t .to) (n + 1))
 
+pub as-transition-steps :
+    {t : Transition} {n i : ℕ} {ws vs : List ℕ} {x : Next} → TransitionExpanded t n i ws vs x →
+    Wrote (transitionSteps t n) (1 + made (t .action)) n i ws vs x
+as-transition-steps {t} {n} {i} w =
+    record { words = w .words; node = omega (arith, w .node); step = w .step ∙ ap (λ k. i + k) (sym (transition-length t n)) }
+
 module _ {n q : ℕ} {s : List ℕ} {t : Transition} {found at node i : ℕ} {ws : List ℕ} (x : Parts n q s found t) (f : TransitionFit t found at node i s ws) where
   pub action-fit : {vs : List ℕ} → length vs ≡ length ws → Fit (x .action .tree) (x .action .at) (at + (8 + q)) (node + 1) (i + 1) (part (8 + q) n s) vs
   action-fit h =

@@ -2,10 +2,10 @@
 -- Assumes nothing.
 use Prim.Native.Nat.{ℕ, _+_, _*_, _≤_}
 use mathlib.Core.Path.{_≡_, refl, sym, ap, ap₂, subst, _∙_}
-use mathlib.Core.List.{List, [], _∷_, _++_, append-assoc}
+use mathlib.Core.List.{List, [], _∷_, _++_, append-assoc, append-nil}
 use native.Mathlib.Numerals.{add-one, add-two, add-three, add-four}
 use native.Mathlib.Omega.{arith}
-use lib.ListN.{length, take, drop, set, length-append, length-drop}
+use lib.ListN.{length, take, drop, set, length-append, length-drop, take-append-drop}
 use lib.Seq.{length-take-le, take-at, drop-at, drop-drop, sets-eq}
 use Rattle.rules.specs.Basics.{joined}
 use Rattle.rules.specs.Syntax.{Stmt}
@@ -67,7 +67,26 @@ pub steps-over : (i : ℕ) (a b : List Step) (ws : List ℕ) → 5 * (i + length
 steps-over i a b ws h =
     over-over i (length a) (table a) (table b) ws (table-length a) (omega (arith, table-length a, table-length b)) ∙ ap (λ l. over i l ws) (sym (table-append a b))
 
+-- from the first step on: the table, and no later word
+pub over-first : (a : List Step) (ws : List ℕ) → over 0 (table a) ws ≡ table a ++ drop (5 * length a) ws
+unfolding over
+over-first a ws =
+    let z : 5 * 0 + length (table a) ≡ 5 * length a = omega (arith, table-length a) in
+    ap (λ n. table a ++ drop n ws) z
+
 -- ---- one writing after another
+
+-- nothing yet
+pub wrote-none : (x : Next) (ws : List ℕ) → Wrote [] 0 (x .node) (x .step) ws ws x
+unfolding over table joined
+wrote-none x ws =
+    let n = 5 * x .step in
+    let z : n + 0 ≡ n = omega arith in
+    record {
+      words = sym (ap₂ (λ a b. a ++ b) (append-nil (take n ws)) (ap (λ k. drop k ws) z) ∙ take-append-drop n ws);
+      node = omega arith;
+      step = omega arith;
+    }
 
 pub wrote-two :
     {p q : Step} {n i : ℕ} {ws vs us : List ℕ} →

@@ -8,7 +8,8 @@ use records::bytes::u16_at;
 ghost use mathlib.Core.Path.{_≡_};
 ghost use Rattle.expander.specs.Transitions.{TransitionExpandable, TransitionExpands};
 
-fn wide(x: u8) -> u32
+// A byte, as wide as a node.
+pub fn wide(x: u8) -> u32
     ensures { λ r. ⌜ r ≡ x ⌝ }
 {
     x as u32

@@ -1,2 +1,3 @@
--- Runs as the code has them.
+-- Runs as the code has them, and how they end.
 pub mod Flows
+pub mod Calls

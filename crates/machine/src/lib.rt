@@ -1,4 +1,5 @@
 // What running an agreement does without reading its bytes: values, operations on a machine, and state records.
+pub mod outcomes;
 pub mod run;
 pub mod state;
 pub mod values;

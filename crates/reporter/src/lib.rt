@@ -1,0 +1,3 @@
+// The report's text.
+mod lines;
+mod text;

@@ -1,0 +1,150 @@
+-- Starting and calling on steps once their parts are known, and what lent words that pass their tests give.
+-- Assumes nothing.
+use Prim.Native.Nat.{ℕ, _+_, _*_, _≤_, _<_}
+use mathlib.Core.Path.{_≡_, refl, sym, ap, subst, _∙_}
+use mathlib.Core.Bool.{Bool, true, false, _&&_, not}
+use mathlib.Core.List.{List, [], _∷_}
+use mathlib.Core.Option.{Option, none, some}
+use native.Mathlib.Omega.{arith}
+use lib.Dec.{eqb, ltb, leb}
+use lib.ListN.{length}
+use borrow.Author.Tests.{lt-ltb, le-ltb}
+use Rattle.rules.specs.declared.Call.{Call}
+use Rattle.rules.specs.declared.Fields.{Fields}
+use Rattle.rules.specs.declared.Machine.{Machine}
+use Rattle.rules.specs.declared.Outcome.{Outcome}
+use Rattle.rules.specs.declared.State.{State}
+use Rattle.rules.specs.Basics.{if_then_else_, firstOf, given, isNone}
+use Rattle.rules.specs.Syntax.{Agreement}
+use Rattle.rules.specs.Expanding.{Step, expansion, table}
+use Rattle.rules.specs.Accepting.{good, fileOf, onFile, refusal, tooFew}
+use Rattle.rules.specs.Running.{Setting, Run, going, stopped}
+use Rattle.rules.specs.Calling.{End, ended, halted, leads, endsIn, openingState, noCall, entered, started, called, callTests, startSetting, startBy, callBy}
+use Rattle.rules.specs.Calling.{refusedStart, refusedCall}
+use Rattle.rules.specs.Stepping.{beginsWith, settled, walkBy, entryOf, entryKnown, startSteps, callSteps, lentTests, startExpanded, callExpanded}
+use Rattle.forms.proofs.Decoding.{lent-steps, lent-pass, lent-call-pass}
+use Rattle.machine.specs.Flows.{flowOf}
+use Rattle.machine.specs.Calls.{Passed}
+use Rattle.machine.proofs.Calls.{sender-refused, lent-refused}
+use Rattle.access.specs.Trees.{AcceptedFile}
+use Rattle.expansion.proofs.Files.{same-accepted}
+use Rattle.walker.specs.declared.Reached.{Reached}
+use Rattle.walker.specs.Tables.{Expanded, Tabled, Listed, Entered}
+use Rattle.walker.specs.Runs.{reachedOf, Walkable, walkIn, walkByIn}
+use Rattle.runner.specs.declared.Prepared.{Prepared}
+use Rattle.runner.specs.Tables.{Walks, Ready, startIn, callIn}
+use Rattle.runner.proofs.Runs.{no-and, call-elsewhere, call-run}
+
+-- ---- the file of lent words
+
+abbrev pub file-of : {file words : List ℕ} → Expanded file words → AcceptedFile file
+file-of a = record { tree = a .tree; is = a .is }
+
+-- what is known of it does not depend on how the file was accepted
+pub fields-of : {file words nodes : List ℕ} {f : Fields} (a : Expanded file words) → Walks file words nodes f → f ≡ a .tree .fields
+fields-of a w = w .fields ∙ ap (λ (t : Agreement). t .fields) (same-accepted (file-of (w .expanded)) (file-of a))
+
+abbrev pub walkable : {file words nodes : List ℕ} {f : Fields} → Walks file words nodes f → Walkable file words nodes (f .states)
+walkable w = record { expanded = w .expanded; indexed = w .indexed; counts = ap (λ (f : Fields). f .states) (w .fields) }
+
+pub tabled : {file words : List ℕ} {n : ℕ} (a : Expanded file words) → n ≡ length (expansion (a .tree)) → Tabled words n
+tabled {file} a h = record { file = file; expanded = a; counts = h }
+
+pub listed : {file words nodes places : List ℕ} {p : Prepared} → Ready file words nodes places p → Listed words places (p .entries)
+listed {file} h = record { file = file; expanded = h .walks .expanded; entered = h .entered }
+
+pub entered-in :
+    {file words nodes places : List ℕ} {p : Prepared} (a : Expanded file words) → Ready file words nodes places p → Entered (expansion (a .tree)) places (p .entries)
+entered-in {places = places} {p} a h =
+    subst (λ (t : Agreement). Entered (expansion t) places (p .entries)) (same-accepted (file-of (h .walks .expanded)) (file-of a)) (h .entered)
+
+-- ---- how a run on steps ends
+
+-- the outcome that goes by a run's flow is that of the node it reached
+pub by-reached :
+    (g : End → Outcome) (c : Setting) (e : End) {r : Reached} {n : ℕ} {o : Outcome} → r ≡ reachedOf e → n ≡ (if eqb (r .node) (c .fields .states) then c .before else r .node) →
+    ((x : Run (Unit {0})) → r .flow ≡ flowOf x → o ≡ g (endsIn n x)) → o ≡ g (settled c e)
+unfolding reachedOf settled endsIn leads flowOf
+by-reached g c (ended n m) h i k = k (going tt m) (ap (λ (r : Reached). r .flow) h) ∙ ap (λ (z : ℕ). g (ended z m)) (i ∙ ap (λ (r : Reached). if eqb (r .node) (c .fields .states) then c .before else r .node) h)
+by-reached g c (halted j m) h i k = k (stopped j m) (ap (λ (r : Reached). r .flow) h)
+
+-- ---- starting
+
+pub start-in :
+    (file : List ℕ) (a : Agreement) {f : Fields} {k : Call} {s : State} {m : Machine} → f ≡ a .fields → k ≡ noCall → s ≡ openingState f → m ≡ entered k s →
+    let c : Setting = record { fields = f; before = f .start; call = k } in started (settled c (walkIn file a c (f .states + 2) m)) ≡ startIn file a
+unfolding startSteps startBy startSetting
+start-in file a e i j h = rw (h, j, i, e)
+
+-- ---- calling
+
+module _ (file : List ℕ) (a : Agreement) (s : State) (k : Call) where
+  abbrev entry : Option Step
+  entry = entryOf (expansion a) (k .name) (s .state)
+
+  abbrev known : Bool
+  known = entryKnown (expansion a) (k .name)
+
+  abbrev runs : Setting → Machine → End
+  runs c m = settled c (walkByIn file a c entry m)
+
+  pub steps-call : callIn file a s k ≡ callBy (a .fields) (callTests (a .fields) s k [] (known && isNone entry)) runs s k
+  unfolding callSteps
+  steps-call = refl
+
+  module _ {f : Fields} (is : f ≡ a .fields) (p : Passed f s k) where
+    abbrev setting : Setting
+    setting = record { fields = f; before = s .state; call = k }
+
+    pub steps-elsewhere : known ≡ true → entry ≡ none → refusedCall (refusal 22) 0 s ≡ callIn file a s k
+    unfolding isNone
+    steps-elsewhere u v = call-elsewhere is s k _ runs steps-call p (rw (u, v))
+
+    pub steps-unknown :
+        known ≡ false → entry ≡ none → {m : Machine} → m ≡ entered k s →
+        called s (settled setting (walkIn file a setting (f .states + 1) m)) ≡ callIn file a s k
+    unfolding walkBy
+    steps-unknown u v {m} h =
+        ap (λ (g : Fields). called s (settled setting (walkIn file a setting (g .states + 1) m))) is
+        ∙ ap (λ (e : Option Step). called s (settled setting (walkByIn file a setting e m))) (sym v) ∙ call-run is s k _ runs steps-call p (rw u) h
+
+    pub steps-found :
+        (t : Step) → entry ≡ some t → {m : Machine} → m ≡ entered k s → called s (settled setting (walkByIn file a setting (some t) m)) ≡ callIn file a s k
+    unfolding isNone
+    steps-found t v {m} h =
+        ap (λ (e : Option Step). called s (settled setting (walkByIn file a setting e m))) (sym v) ∙ call-run is s k _ runs steps-call p (rw v (no-and known)) h
+
+-- ---- the tests of lent words
+
+module _ (file words : List ℕ) (a : AcceptedFile file) where
+  -- too few words; words enough, and others than the expansion
+  pub few-tested : length words < 5 * length (expansion (a .tree)) → firstOf (lentTests (a .tree) words) ≡ some 11
+  unfolding firstOf lentTests tooFew
+  few-tested h = rw (lt-ltb _ _ h)
+
+  pub other-tested : 5 * length (expansion (a .tree)) ≤ length words → beginsWith words (table (expansion (a .tree))) ≡ false → firstOf (lentTests (a .tree) words) ≡ some 12
+  unfolding firstOf lentTests tooFew
+  other-tested h e = rw (le-ltb _ _ h, e)
+
+  pub start-refused : (n : ℕ) → firstOf (lentTests (a .tree) words) ≡ some n → refusedStart (refusal n) 0 ≡ startExpanded file words
+  unfolding startExpanded onFile given
+  start-refused n e = rw (a .is, e)
+
+  module _ (s : State) (k : Call) {f : Fields} (is : f ≡ a .tree .fields) where
+    pub lent-sender : leb (f .accounts) (k .sender) ≡ true → refusedCall (refusal 9) 0 s ≡ callExpanded file words s k
+    unfolding callExpanded onFile callSteps
+    lent-sender e = rw (a .is) (sym (sender-refused (a .tree .fields) s k _ _ _ (rw is at e)))
+
+    pub lent-words : leb (f .accounts) (k .sender) ≡ false → (n : ℕ) → firstOf (lentTests (a .tree) words) ≡ some n → refusedCall (refusal n) 0 s ≡ callExpanded file words s k
+    unfolding callExpanded onFile callSteps
+    lent-words h n e = rw (a .is) (sym (lent-refused (a .tree .fields) s k _ _ _ (rw is at h) n e))
+
+  -- words that begin with the expansion
+  module _ (h : beginsWith words (table (expansion (a .tree))) ≡ true) where
+    pub start-lent : startIn file (a .tree) ≡ startExpanded file words
+    unfolding startExpanded onFile given
+    start-lent = rw (a .is, lent-pass words (a .tree) h, lent-steps words (a .tree) h)
+
+    pub call-lent : (s : State) (k : Call) → callIn file (a .tree) s k ≡ callExpanded file words s k
+    unfolding callExpanded onFile callSteps callBy
+    call-lent s k = rw (a .is, lent-steps words (a .tree) h, lent-call-pass words (a .tree) h s k _)

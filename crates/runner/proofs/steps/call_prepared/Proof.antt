@@ -1,0 +1,34 @@
+-- `call_prepared` meets its contract, by the tests that come before the name is looked for.
+use mathlib.Core.Path.{_∙_}
+use native.Mathlib.Omega.{arith}
+use borrow.Author.Needs.{needs}
+use Rattle.machine.proofs.Calls.{first-passed, numbered-some, numbered-none}
+use Rattle.runner.proofs.Runs.{accounts-few, call-refused}
+use Rattle.runner.proofs.Lent.{file-of, fields-of, steps-call}
+use Rattle.runner.proofs.steps.call_prepared.Statement.{statement}
+use Rattle.runner.proofs.steps.call_prepared.Tie as tie
+
+first-refusal-requires : tie.Need-first-refusal-requires
+first-refusal-requires c κs = let w = c .before .before .before .pre .walks in accounts-few (file-of (w .expanded)) (w .fields)
+
+returns : tie.Need-returns
+returns c = λ a.
+    let i = c .before .before in
+    let s = i .before .before .before .before .before in
+    let n = i .before .first-refusal .result in
+    rw (c .refused-call .ensures, c .before .refusal .ensures)
+    (call-refused (fields-of a (s .pre .walks)) (s .args .s) (s .args .k) _ _ (steps-call _ (a .tree) (s .args .s) (s .args .k)) n (i .before .first-refusal .ensures ∙ numbered-some n (i .if1 .taken)))
+
+call-passed-requires : tie.Need-call-passed-requires
+call-passed-requires c κs = (c .before .before .before .before .before .pre, first-passed _ _ _ (c .before .first-refusal .ensures ∙ numbered-none (c .before .first-refusal .result) (omega arith)))
+
+pub call-prepared-spec : {M : Type 1} → statement M
+call-prepared-spec =
+    tie.close
+    (tie.spec
+    first-refusal-requires
+    (λ c κs. search needs)
+    (λ c κs. search needs)
+    returns
+    call-passed-requires
+    (λ c. search needs))
