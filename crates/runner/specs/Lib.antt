@@ -1,3 +1,4 @@
 -- What the runs of a call ask for.
 pub mod Transitions
 pub mod Tables
+pub mod Exported
