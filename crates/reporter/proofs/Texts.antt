@@ -10,7 +10,7 @@ use lib.Dec.{ltb}
 use borrow.Author.Tests.{lt-ltb, le-ltb}
 use native.Mathlib.Nat.{mod-eq-of-lt, pow-suc, mul-comm}
 use native.Mathlib.Omega.{arith}
-use Rattle.rules.specs.Basics.{if_then_else_, joined}
+use Rattle.rules.specs.Basics.{if_then_else_, joined, each}
 use Rattle.rules.specs.Reporting.{digits, decimal, spaced}
 use Rattle.reporter.specs.Texts.{Put}
 
@@ -31,6 +31,14 @@ unfolding joined
 rows-more [] i h = absurd (omega arith)
 rows-more (r ∷ rows) zero h = sym (append-nil (spaced r))
 rows-more (r ∷ rows) (suc i) h = append-assoc (spaced r) (joined spaced (take i rows)) (spaced (getD rows i 0)) ∙ ap (λ (t : List ℕ). spaced r ++ t) (rows-more rows i (omega arith))
+
+-- one line more
+pub each-more : (f : ℕ → List ℕ) (i k : ℕ) → each f i k ++ f (i + k) ≡ each f i (suc k)
+unfolding each
+each-more f i zero = let z : i + 0 ≡ i = omega arith in ap f z ∙ sym (append-nil (f i))
+each-more f i (suc k) =
+    let z : i + suc k ≡ suc i + k = omega arith in
+    append-assoc (f i) (each f (suc i) k) (f (i + suc k)) ∙ ap (λ (l : List ℕ). f i ++ l) (ap (λ (n : ℕ). each f (suc i) k ++ f n) z ∙ each-more f (suc i) k)
 
 -- ---- the digits of a number
 

@@ -58,6 +58,12 @@ pub entered-in :
 entered-in {places = places} {p} a h =
     subst (λ (t : Agreement). Entered (expansion t) places (p .entries)) (same-accepted (file-of (h .walks .expanded)) (file-of a)) (h .entered)
 
+-- the words of a prepared file, by any way in which it is accepted
+abbrev pub by-file : {file words nodes places : List ℕ} {p : Prepared} → Ready file words nodes places p → (a : AcceptedFile file) → Expanded file words
+by-file {words = words} h a =
+    let e = h .walks .expanded in
+    record { tree = a .tree; is = a .is; begins = subst (λ (t : Agreement). beginsWith words (table (expansion t)) ≡ true) (same-accepted (file-of e) a) (e .begins) }
+
 -- ---- how a run on steps ends
 
 -- the outcome that goes by a run's flow is that of the node it reached

@@ -21,7 +21,7 @@ entries-part (suc k) i ns h =
     let e = drop-cons ns i 0 (omega arith) in
     ap (λ (l : List ℕ). getD ns i 0 ∷ l) (entries-part k (i + 1) ns (omega arith) ∙ ap (λ (j : ℕ). take k (drop j ns)) (add-one i)) ∙ sym (ap (take (suc k)) e)
 
-entries-all : (k : ℕ) (ns : List ℕ) → length ns ≡ k → entries k 0 ns ≡ ns
+pub entries-all : (k : ℕ) (ns : List ℕ) → length ns ≡ k → entries k 0 ns ≡ ns
 entries-all k ns h = entries-part k 0 ns (omega arith) ∙ take-all k ns (omega arith)
 
 pub state-from-is :

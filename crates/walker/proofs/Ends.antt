@@ -3,7 +3,7 @@
 use Prim.Native.Nat.{ℕ, _≤_, _<_}
 use mathlib.Core.Path.{_≡_, refl, sym, ap, subst, _∙_}
 use mathlib.Core.Bool.{Bool, true, false, false≢true}
-use mathlib.Core.List.{List, [], _∷_}
+use mathlib.Core.List.{List}
 use mathlib.Core.Option.{Option, none, some}
 use native.Mathlib.Omega.{arith}
 use lib.Dec.{eqb}
@@ -193,17 +193,7 @@ module _ (c : Setting) where
     pub step-performs : (s : Step) (m : Machine) → 4 ≤ s .kind → s .kind ≤ 7 → advance records f steps c s m ≡ performed records f steps c s m
     unfolding advance choose
     step-performs s m l u =
-        four-to-seven (λ k. choose k (rows s) (halted 25) m ≡ performed records f steps c s m) (s .kind) l u refl refl refl refl
-      where
-        rows : Step → List (ℕ × (Machine → End))
-        rows s =
-            (2, decided records f steps c s)
-            ∷ (3, decided records f steps c s)
-            ∷ (4, performed records f steps c s)
-            ∷ (5, performed records f steps c s)
-            ∷ (6, performed records f steps c s)
-            ∷ (7, performed records f steps c s)
-            ∷ []
+        four-to-seven (λ k. s .kind ≡ k → advance records f steps c s m ≡ performed records f steps c s m) (s .kind) l u (λ h. rw h) (λ h. rw h) (λ h. rw h) (λ h. rw h) refl
 
     pub step-other : (s : Step) (m : Machine) → (s .kind ≡ 2 → ⊥) → (s .kind ≡ 3 → ⊥) → (s .kind ≡ 4 → ⊥) → (s .kind ≡ 5 → ⊥) → (s .kind ≡ 6 → ⊥) → (s .kind ≡ 7 → ⊥)
         → advance records f steps c s m ≡ halted 25 m

@@ -55,7 +55,9 @@ module _ {words : List ℕ} {steps : List Step} {i : ℕ} (h : Here words steps 
   pub entries-here : wordAt words i 2 ≡ 1 → count < length places → EnteredTo (i + 1) steps (set places count i) (count + 1)
   unfolding guardPlaces
   entries-here e low =
-      f ∙ rw (h .here, eq-eqb _ _ e, add-one count, add-one i) (sym (append-snoc (take count places) i _) ∙ ap (λ (l : List ℕ). l ++ guardPlaces (suc i) (drop (suc i) steps)) (sym (take-suc-set places count i low)))
+      let rest : List ℕ = guardPlaces (suc i) (drop (suc i) steps) in
+      let more = ap (λ (l : List ℕ). l ++ rest) (sym (take-suc-set places count i low)) in
+      f ∙ rw (h .here, eq-eqb _ _ e, add-one count, add-one i) (sym (append-snoc (take count places) i rest) ∙ more)
 
   pub entries-other : (wordAt words i 2 ≡ 1 → ⊥) → EnteredTo (i + 1) steps places count
   unfolding guardPlaces

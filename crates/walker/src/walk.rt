@@ -110,12 +110,10 @@ fn advance(
         2 => decide(file, words, i, m, frame, arguments),
         4 | 5 | 6 | 7 => {
             let at = wide(word(words, i, AT));
-            led(
-                word(words, i, TARGET),
-                perform(&file[at..], m, frame, arguments),
-            )
+            let to = word(words, i, TARGET);
+            led(to, perform(&file[at..], m, frame, arguments))
         }
-        // The steps of other kinds are none that a run meets first at a node.
+        // No step of another kind is the first that leaves a node of a run.
         _ => halted(25, m),
     }
 }
@@ -184,10 +182,8 @@ pub fn enter(
         r ≡ reachedOf (walkByIn (now (file .entry)) (a .tree) c (some s) m)) ⌝ }
 {
     let at = wide(word(words, place, AT));
-    let r = led(
-        word(words, place, TARGET),
-        guard(&file[at..], m, frame, arguments),
-    );
+    let to = word(words, place, TARGET);
+    let r = led(to, guard(&file[at..], m, frame, arguments));
     let f = r.flow;
     let how = f.how;
     if !is_going(how) {

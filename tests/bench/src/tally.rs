@@ -1,46 +1,96 @@
-//! What was compared: how many cases agreed, those that differ, and how often each refusal was met.
+//! What was compared: how many comparisons of each operation agreed, those that differ, and how often each refusal was met.
 
-pub struct Tally {
-    pub passed: u64,
-    pub failed: u64,
-    met: [u64; 28],
+use crate::operations::Operation;
+use std::fmt::Debug;
+
+/// A comparison in which the library and the interpreter differ.
+pub struct Difference {
+    pub operation: Operation,
+    pub text: String,
 }
 
-/// The refusals that the operations compared so far can give.
-const NUMBERS: [usize; 8] = [1, 2, 3, 4, 5, 6, 7, 8];
+#[derive(Default)]
+pub struct Tally {
+    passed: [u64; 8],
+    failed: u64,
+    /// By operation and refusal; 0 is accepted, completed or judged.
+    met: [[u64; 28]; 8],
+    verdicts: [u64; 4],
+    /// Those of the present file.
+    pub differences: Vec<Difference>,
+}
 
 impl Tally {
-    pub fn new() -> Self {
-        Tally { passed: 0, failed: 0, met: [0; 28] }
-    }
-
-    /// One case: what the library gives must be what the interpreter gives.
-    pub fn compare<T: PartialEq + std::fmt::Debug>(&mut self, case: &str, library: T, expected: T, file: &[u8]) {
+    /// One comparison, where the interpreter gives this refusal.
+    pub fn compare<T: PartialEq + Debug>(
+        &mut self,
+        operation: Operation,
+        what: &str,
+        library: T,
+        expected: T,
+        refusal: u32,
+    ) {
+        self.met[operation as usize][refusal as usize] += 1;
         if library == expected {
-            self.passed += 1;
+            self.passed[operation as usize] += 1;
             return;
         }
         self.failed += 1;
-        let bytes: String = file.iter().map(|b| format!("{b:02x}")).collect();
-        println!("FAILED: {case}: the library gives {library:?}, the interpreter {expected:?}; file {bytes}");
+        let text = format!("{what}: the library gives {library:?}, the interpreter {expected:?}");
+        self.differences.push(Difference { operation, text });
     }
 
-    pub fn meet(&mut self, refusal: u32) {
-        if let Some(count) = self.met.get_mut(refusal as usize) {
-            *count += 1;
-        }
+    pub fn judged(&mut self, verdict: u32) {
+        self.verdicts[verdict as usize] += 1;
     }
 
-    /// Prints how often each number was met; one that was not is a failure.
-    pub fn report(&mut self) {
-        println!("accepted or completed: {}", self.met[0]);
-        for number in NUMBERS {
-            println!("refusal {number}: {}", self.met[number]);
-            if self.met[number] == 0 {
-                println!("FAILED: refusal {number} was not met");
-                self.failed += 1;
+    /// Prints what was met; a refusal or verdict that can be met and was not is a failure.
+    pub fn report(&mut self, all_must_be_met: bool) {
+        for operation in Operation::ALL {
+            if operation.compared() {
+                self.report_operation(operation, all_must_be_met);
+            } else {
+                println!("{}: NOT COMPARED", operation.name());
             }
         }
-        println!("{} passed, {} failed", self.passed, self.failed);
+        if Operation::Verdict.compared() {
+            let [_, broken, held, spent] = self.verdicts;
+            println!("verdicts: broken {broken}, held {held}, spent {spent}");
+            self.must_be_met(all_must_be_met && self.verdicts[1..].contains(&0), "a verdict");
+        }
+        self.report_numbers(all_must_be_met);
+    }
+
+    fn report_operation(&mut self, operation: Operation, all_must_be_met: bool) {
+        let met = self.met[operation as usize];
+        let seen: Vec<String> = operation.refusals().map(|n| format!("{n}:{}", met[n])).collect();
+        println!("{}: answered {}, refused {}", operation.name(), met[0], seen.join(" "));
+        for number in operation.refusals() {
+            let missing = all_must_be_met && met[number] == 0;
+            self.must_be_met(missing, &format!("refusal {number} of {}", operation.name()));
+        }
+    }
+
+    /// How often each number was met in all.
+    fn report_numbers(&mut self, all_must_be_met: bool) {
+        let all_compared = Operation::ALL[..7].iter().all(|operation| operation.compared());
+        for number in (1..=12).chain(20..=27) {
+            let count: u64 = self.met.iter().map(|met| met[number]).sum();
+            println!("refusal {number}: {count}");
+            self.must_be_met(all_must_be_met && all_compared && count == 0, &format!("refusal {number}"));
+        }
+    }
+
+    fn must_be_met(&mut self, missing: bool, what: &str) {
+        if missing {
+            println!("FAILED: {what} was not met");
+            self.failed += 1;
+        }
+    }
+
+    /// Prints the last line; gives whether nothing failed.
+    pub fn finish(&self) -> bool {
+        println!("{} passed, {} failed", self.passed.iter().sum::<u64>(), self.failed);
+        self.failed == 0
     }
 }

@@ -2,11 +2,17 @@
 //! - `write`: the writer from tree to bytes, by way of loose records.
 //! - `damage`: damaged files, aimed at refusals 1 to 8.
 //! - `limits`: files at and just past every limit of the format.
+//! - `worst`: the files that ask most of stack and time.
+//! - `search`: verdicts that try many lists.
+//! - `edges`: outcomes that one unit, list or byte more would change.
 //! - `calls`: lists of calls, unfit records and lent words.
 
 pub mod calls;
 pub mod damage;
+pub mod edges;
 pub mod limits;
+pub mod search;
+pub mod worst;
 pub mod write;
 
 use crate::random::Random;
@@ -404,7 +410,7 @@ fn read_target(target: u16) -> Expression {
     if target >= FIRST_LOCAL { Local(target - FIRST_LOCAL).into() } else { Variable(target).into() }
 }
 
-fn count_up(target: u16) -> Statement {
+pub fn count_up(target: u16) -> Statement {
     StatementKind::Set(target, binary(0, read_target(target), constant(1))).into()
 }
 

@@ -2,9 +2,9 @@
 //! self-check.
 
 use interpreter::check::selfcheck;
-use interpreter::generate::{self, limits::limit_files};
+use interpreter::generate::{self, limits::limit_files, worst::worst_files};
 use interpreter::read::read;
-use interpreter::run;
+use interpreter::run::{self, Call};
 use interpreter::tree::{Agreement, ExpressionKind, Rule};
 use interpreter::values::{value, View};
 use interpreter::verdict::{judge, row_call, BROKEN, HELD, SPENT};
@@ -106,4 +106,24 @@ fn without_rows_only_the_empty_list_exists() {
     agreement.rows.clear();
     agreement.bound = 1;
     assert_eq!((judge(&agreement, 0).verdict, judge(&agreement, 0).tried), (HELD, 1));
+}
+
+#[test]
+fn worst_files_meet_their_limits() {
+    let mut met = [0; 28];
+    let mut used_up = 0;
+    for (label, bytes) in worst_files() {
+        match read(&bytes) {
+            Err(refusal) => met[refusal.number as usize] += 1,
+            Ok(agreement) => {
+                assert!(!label.contains("on the last level, in"), "{label}");
+                let start = run::start_read(&agreement);
+                let calls = [1, 9].map(|name| run::call_read(&agreement, &start.state, &Call { name, ..Call::default() }));
+                used_up += [start, calls[0], calls[1]].iter().filter(|o| o.units == 4_096).count();
+            }
+        }
+    }
+    assert!((1..=5).all(|number| met[number] >= 3), "{met:?}");
+    assert_eq!((met[1], met[5], met[6], met[7]), (4, 8, 5, 1));
+    assert!(used_up >= 16, "{used_up}");
 }

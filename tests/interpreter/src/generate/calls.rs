@@ -83,6 +83,51 @@ pub fn unfit(random: &mut Random, agreement: &Agreement, from: &State) -> State 
     state
 }
 
+/// A record for a call: fit, changed in one place, with a total that is right only modulo 2^32, or of any numbers.
+pub fn record(random: &mut Random, agreement: &Agreement) -> State {
+    let state = fit(random, agreement);
+    match random.below(10) {
+        0..=3 => state,
+        4..=5 => unfit(random, agreement, &state),
+        6 => one_more(random, state),
+        7 => wrapped(random, agreement, state),
+        8 => moved(random, state),
+        _ => any_numbers(random),
+    }
+}
+
+/// One entry, used or not, is larger by one.
+fn one_more(random: &mut Random, mut state: State) -> State {
+    let at = random.below(25) as usize;
+    let entry = if at < 16 { &mut state.variables[at] } else { state.balances.get_mut(at - 16).unwrap_or(&mut state.own) };
+    *entry = entry.wrapping_add(1);
+    state
+}
+
+/// The total is larger by 2^32.
+fn wrapped(random: &mut Random, agreement: &Agreement, mut state: State) -> State {
+    let account = random.below(agreement.accounts as u32) as usize;
+    let all = state.balances[account] as u64 + state.own as u64 + (1 << 32);
+    state.own = (all - (all / 2)) as u32;
+    state.balances[account] = (all / 2) as u32;
+    state
+}
+
+/// A balance stands in another account, which may be an unused one.
+fn moved(random: &mut Random, mut state: State) -> State {
+    state.balances.swap(random.below(8) as usize, random.below(8) as usize);
+    state
+}
+
+fn any_numbers(random: &mut Random) -> State {
+    State {
+        state: random.below(70),
+        variables: [0; 16].map(|_: u32| random.next() as u32),
+        balances: [0; 8].map(|_: u32| random.next() as u32),
+        own: random.next() as u32,
+    }
+}
+
 /// The right words, sometimes with spare words after them.
 pub fn spare(random: &mut Random, table: &[u32]) -> Vec<u32> {
     let count = random.pick(&[0, 0, 1, 4, 5, 17]);

@@ -23,6 +23,34 @@ pub fn damaged(seed: u64) -> Vec<u8> {
     bytes
 }
 
+/// An agreement with one record wrapped so that it, or a record in it, stands near level 17.
+pub fn deepened(seed: u64) -> Vec<u8> {
+    let mut random = Random::new(seed);
+    let random = &mut random;
+    let mut file = write::loose(&agreement(random));
+    let number = random.below(file.count() as u32) as usize;
+    let level = file.level(number);
+    let record = file.nth(number);
+    let wraps: &[u16] = match record.kind {
+        16..=36 => &[32, 33, 35],
+        64..=81 => &[81],
+        _ => return written(&file),
+    };
+    for _ in level..random.between(15, 18) as usize {
+        wrap(record, random.pick(wraps));
+    }
+    written(&file)
+}
+
+/// Puts a record inside a new one of this kind, after a condition where the kind has one.
+fn wrap(record: &mut Loose, kind: u16) {
+    let inner = std::mem::replace(record, write::record(kind, Vec::new(), Vec::new()));
+    if matches!(kind, 33 | 35) {
+        record.children.push(write::expression(&constant(0)));
+    }
+    record.children.push(inner);
+}
+
 /// Damage that keeps all lengths in step.
 fn damage_records(random: &mut Random, file: &mut Loose) {
     match random.below(16) {
@@ -146,14 +174,13 @@ fn change_field(random: &mut Random, file: &mut Loose) {
 fn too_deep(random: &mut Random, file: &mut Loose) {
     let times = random.between(9, 18);
     let record = any(random, file);
-    let wrap = match record.kind {
+    let kind = match record.kind {
         16..=36 => 32,
         64..=81 => 81,
         _ => return,
     };
     for _ in 0..times {
-        let inner = std::mem::replace(record, write::record(wrap, Vec::new(), Vec::new()));
-        record.children.push(inner);
+        wrap(record, kind);
     }
 }
 

@@ -127,6 +127,22 @@ impl Loose {
         1 + self.children.iter().map(Loose::count).sum::<usize>()
     }
 
+    /// The level of the record of a number, where this one is on level 1.
+    pub fn level(&self, number: usize) -> usize {
+        if number == 0 {
+            return 1;
+        }
+        let mut left = number - 1;
+        for child in &self.children {
+            let count = child.count();
+            if left < count {
+                return 1 + child.level(left);
+            }
+            left -= count;
+        }
+        unreachable!("the number is below the count")
+    }
+
     /// The record of a number, counted in the order of the file from 0.
     pub fn nth(&mut self, number: usize) -> &mut Loose {
         if number == 0 {

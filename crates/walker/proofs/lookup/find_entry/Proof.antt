@@ -63,15 +63,19 @@ loop-again : tie.Need-loop-again Inv-loop μ-loop
 loop-again c =
     let v = c .before .before in
     let l = v .before .before .before in
-    let s = l .before .before .args in (
+    let s = l .before .before .args in
+    let ws = now (s .words) in (
       omega arith,
       λ file a e.
-          let left : Bool → Type 0 = λ b. Left (now (s .words)) (expansion (a .tree)) b (s .name) (s .state) (drop (l .loop .i + 1) (guardPlaces 0 (expansion (a .tree)))) in
+          let T = expansion (a .tree) in
+          let left : Bool → Type 0 = λ b. Left ws T b (s .name) (s .state) (drop (l .loop .i + 1) (guardPlaces 0 T)) in
           let h = l .loop .inv .1 file a e in
           let n = c .before .word .ensures in
+          let p = one v file a e in
+          let b = l .loop .elsewhere in
           ⊎-elim
-          (λ w. subst left (sym (w .3)) (found-other (now (s .words)) (expansion (a .tree)) (one v file a e) (l .loop .elsewhere) (s .name) (s .state) h (sym n ∙ w .0 .taken) (λ z. w .2 .left (w .1 .ensures ∙ z))))
-          (λ w. subst left (sym (w .1)) (found-none (now (s .words)) (expansion (a .tree)) (one v file a e) (l .loop .elsewhere) (s .name) (s .state) h (λ z. w .0 .left (n ∙ z))))
+          (λ w. subst left (sym (w .3)) (found-other ws T p b (s .name) (s .state) h (sym n ∙ w .0 .taken) (λ z. w .2 .left (w .1 .ensures ∙ z))))
+          (λ w. subst left (sym (w .1)) (found-none ws T p b (s .name) (s .state) h (λ z. w .0 .left (n ∙ z))))
           (c .if1 .came),
     )
 

@@ -83,9 +83,11 @@ returns : tie.Need-returns
 returns c = λ a t e d h f.
     let l = c .before .before .before in
     let s = l .before .before .before .before .before .before .before .before in
+    let file = now (s .args .file) in
+    let step = stepAt (now (s .args .words)) (s .args .place) in
     let g = sym (c .before .is-going .ensures) ∙ not-true _ (c .if1 .taken) in
-    by-stops d (recordsIn (now (s .args .file)) (a .tree .fields .variables)) (a .tree .fields) (expansion (a .tree)) (stepAt (now (s .args .words)) (s .args .place)) (s .args .m) (leads l a d h) g
-    ∙ ap (λ (t : Step). reachedOf (walkByIn (now (s .args .file)) (a .tree) d (some t) (s .args .m))) (at-here (at-place a (s .args .place) e) e)
+    by-stops d (recordsIn file (a .tree .fields .variables)) (a .tree .fields) (expansion (a .tree)) step (s .args .m) (leads l a d h) g
+    ∙ ap (λ (t : Step). reachedOf (walkByIn file (a .tree) d (some t) (s .args .m))) (at-here (at-place a (s .args .place) e) e)
 
 walk-requires : tie.Need-walk-requires
 walk-requires c κs =
@@ -101,11 +103,12 @@ returns-2 : tie.Need-returns-2
 returns-2 c = λ a t e d h f.
     let l = c .before .before .before .before .before in
     let s = l .before .before .before .before .before .before .before .before in
+    let file = now (s .args .file) in
+    let step = stepAt (now (s .args .words)) (s .args .place) in
     let g = sym (c .before .before .before .is-going .ensures) ∙ not-false _ (c .before .before .if1 .left) in
     c .walk .ensures a d h f
-    ∙ ap reachedOf
-    (sym (by-goes d (recordsIn (now (s .args .file)) (a .tree .fields .variables)) (a .tree .fields) (expansion (a .tree)) (stepAt (now (s .args .words)) (s .args .place)) (s .args .m) (leads l a d h) g))
-    ∙ ap (λ (t : Step). reachedOf (walkByIn (now (s .args .file)) (a .tree) d (some t) (s .args .m))) (at-here (at-place a (s .args .place) e) e)
+    ∙ ap reachedOf (sym (by-goes d (recordsIn file (a .tree .fields .variables)) (a .tree .fields) (expansion (a .tree)) step (s .args .m) (leads l a d h) g))
+    ∙ ap (λ (t : Step). reachedOf (walkByIn file (a .tree) d (some t) (s .args .m))) (at-here (at-place a (s .args .place) e) e)
 
 pub enter-spec : {M : Type 1} → statement M
 enter-spec =

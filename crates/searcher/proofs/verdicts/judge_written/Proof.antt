@@ -1,0 +1,41 @@
+-- The index is made once, and then the rule is judged.
+use borrow.Author.Needs.{needs}
+use Rattle.runner.proofs.Lent.{file-of, tabled}
+use Rattle.searcher.proofs.Judges.{read-of}
+use Rattle.searcher.proofs.verdicts.judge_written.Statement.{statement}
+use Rattle.searcher.proofs.verdicts.judge_written.Tie as tie
+
+index-nodes-requires : tie.Need-index-nodes-requires
+index-nodes-requires c κs = let w = c .before .before .pre .0 in tabled (w .expanded) (w .counts)
+
+index-entries-requires : tie.Need-index-entries-requires
+index-entries-requires c κs = let w = c .before .before .before .pre .0 in tabled (w .expanded) (w .counts)
+
+fields-requires : tie.Need-fields-requires
+fields-requires c κs = read-of (file-of (c .before .before .before .before .before .pre .0 .expanded))
+
+judge-accepted-requires : tie.Need-judge-accepted-requires
+judge-accepted-requires c κs =
+    let s = c .before .before .before .before .before .before .before .before in
+    let w = s .pre .0 in (
+      record {
+        walks = record {
+          expanded = w .expanded;
+          indexed = c .before .before .before .before .before .index-nodes .ensures _ (w .expanded) (w .counts);
+          fields = c .before .before .fields .ensures (read-of (file-of (w .expanded)));
+        };
+        entered = c .before .before .before .before .index-entries .ensures _ (w .expanded) (w .counts);
+      },
+      s .pre .1,
+      s .pre .2,
+    )
+
+pub judge-written-spec : {M : Type 1} → statement M
+judge-written-spec =
+    tie.close
+    (tie.spec
+    index-nodes-requires
+    index-entries-requires
+    fields-requires
+    judge-accepted-requires
+    (λ c. search needs))
