@@ -1,4 +1,5 @@
--- What we owe: the statements of the theorems, each readable without its proof. Proofs stand in the crates named beside them.
+-- What we owe: the statements of the theorems, each readable without its proof. The proofs stand in
+-- the crates `forms`, `verdicts` and `totals`.
 use mathlib.Core.Path.{_≡_}
 use Prim.Native.Nat.{ℕ, _+_, _≤_, _<_}
 use mathlib.Core.Bool.{Bool, true, false}
@@ -103,7 +104,8 @@ TotalKept =
     → isCompleted (start file .answer) ≡ true
     → All (λ (o : Outcome). total (o .state) ≡ sum (a .fields .opening)) (runList file calls)
 
--- An accepted file's completed start never yields an unfit record, and neither does any list of calls from it.
+-- An accepted file's completed start never yields an unfit record, and neither does any list of calls from it. (Of the expanded
+-- form the same follows by FormsAgree, and so does TotalKept.)
 abbrev pub NeverUnfit : Type 0
 NeverUnfit =
     (file : List ℕ) (a : Agreement) (calls : List Call)
