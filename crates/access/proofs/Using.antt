@@ -8,6 +8,7 @@ use mathlib.Core.List.{List, [], _∷_, map}
 use mathlib.Core.Option.{Option, none, some}
 use native.Mathlib.Omega.{arith}
 use lib.Dec.{ltb}
+use borrow.Author.Tests.{ltb-false}
 use lib.ListN.{length, getD, getElem?, drop, length-drop}
 use Rattle.rules.specs.declared.Call.{Call}
 use Rattle.rules.specs.Basics.{if_then_else_, given, find, sum, most32}
@@ -36,19 +37,21 @@ use Rattle.access.proofs.Items.{Items, transition-items, row-items, rul
 
 -- ---- bounds
 
--- the tree of an accepted file was read
-accept-tree : (a b : Agreement) → accept a ≡ good b → a ≡ b
+-- the tree of an accepted file was read, and has at most 1,024 steps
+accept-good : (a b : Agreement) → accept a ≡ good b → (a ≡ b) × (length (expansion a) ≤ 1024)
 unfolding accept given sized
-accept-tree a b h = go (firstRepeat [] (a .transitions)) h
+accept-good a b h = go (firstRepeat [] (a .transitions)) h
   where
-    sizes : (x y : Bool) → (if x then bad (refusalAt 7 0) else if y then bad (refusalAt 8 0) else good a) ≡ good b → a ≡ b
-    sizes true y h = absurd (let z : _≡_ {A = ℕ} 0 1 = cc in omega arith)
-    sizes false true h = absurd (let z : _≡_ {A = ℕ} 0 1 = cc in omega arith)
-    sizes false false h = cc
+    sizes :
+        (x y : Bool) → ltb 1024 (length (expansion a)) ≡ y → (if x then bad (refusalAt 7 0) else if y then bad (refusalAt 8 0) else good a) ≡ good b →
+        (a ≡ b) × (length (expansion a) ≤ 1024)
+    sizes true y e h = absurd (let z : _≡_ {A = ℕ} 0 1 = cc in omega arith)
+    sizes false true e h = absurd (let z : _≡_ {A = ℕ} 0 1 = cc in omega arith)
+    sizes false false e h = let z : a ≡ b = cc in (z, ltb-false 1024 (length (expansion a)) e)
 
-    go : (o : Option ℕ) → given (λ at. bad (refusalAt 6 at)) (λ _. sized a) o ≡ good b → a ≡ b
+    go : (o : Option ℕ) → given (λ at. bad (refusalAt 6 at)) (λ _. sized a) o ≡ good b → (a ≡ b) × (length (expansion a) ≤ 1024)
     go (some at) h = absurd (let z : _≡_ {A = ℕ} 0 1 = cc in omega arith)
-    go none h = sizes (ltb most32 (sum (a .fields .opening))) (ltb 1024 (length (expansion a))) h
+    go none h = sizes (ltb most32 (sum (a .fields .opening))) (ltb 1024 (length (expansion a))) refl h
 
 pub accepted-read : (file : List ℕ) (a : Agreement) → fileOf file ≡ good a → (t : TreeRead file) × (t .tree ≡ a)
 unfolding fileOf accepted
@@ -56,7 +59,24 @@ accepted-read file a h = go (readTree file) refl h
   where
     go : (r : Reading Agreement) → readTree file ≡ r → accepted r ≡ good a → (t : TreeRead file) × (t .tree ≡ a)
     go (refused n p) e h = absurd (let z : _≡_ {A = ℕ} 0 1 = cc in omega arith)
-    go (read b to left) e h = (record { tree = b; to = to; left = left; is = e }, accept-tree b a h)
+    go (read b to left) e h = (record { tree = b; to = to; left = left; is = e }, accept-good b a h .0)
+
+-- the tree of an accepted file, as it was read
+abbrev pub tree-of : {file : List ℕ} → AcceptedFile file → TreeRead file
+tree-of {file} a =
+    let t = accepted-read file (a .tree) (a .is) in
+    record { tree = a .tree; to = t .0 .to; left = t .0 .left; is = t .0 .is ∙ ap (λ (x : Agreement). read x (t .0 .to) (t .0 .left)) (t .1) }
+
+-- a file is accepted as one tree
+pub same-accepted : {file : List ℕ} (a b : AcceptedFile file) → a .tree ≡ b .tree
+same-accepted a b =
+    let p = a .is in
+    let q = b .is in
+    cc
+
+pub few-steps : {file : List ℕ} (a : AcceptedFile file) → length (expansion (a .tree)) ≤ 1024
+unfolding fileOf accepted
+few-steps a = let t = tree-of a in accept-good (a .tree) (a .tree) (sym (ap accepted (t .is)) ∙ a .is) .1
 
 -- a file whose steps were counted is accepted
 pub counted-file : (file : List ℕ) (n : ℕ) → Steps n ≡ readFile file → (a : AcceptedFile file) × (n ≡ length (expansion (a .tree)))

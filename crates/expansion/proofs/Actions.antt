@@ -14,14 +14,14 @@ use Rattle.records.proofs.StepCounts.{expand-length}
 use Rattle.access.specs.declared.Layout.{Layout}
 use Rattle.access.specs.Trees.{AcceptedFile}
 use Rattle.access.specs.Places.{Laid}
-use Rattle.access.proofs.Using.{ActionAt, tree-bounds, initial-at, fallback-at}
+use Rattle.access.proofs.Using.{ActionAt, tree-bounds, initial-at, fallback-at, tree-of, few-steps}
 use Rattle.expander.specs.declared.Ends.{Ends}
 use Rattle.expander.specs.declared.Next.{Next}
 use Rattle.expander.specs.Writing.{Expanded, Expandable, Expands}
 use Rattle.expander.proofs.Counts.{made-few}
 use Rattle.expander.proofs.Words.{as-steps, then-expanded}
 use Rattle.expansion.specs.Writing.{Writable, actionSteps, actionNodes, ActionsWrote}
-use Rattle.expansion.proofs.Files.{was-read, few-steps, has-room}
+use Rattle.expansion.proofs.Files.{has-room}
 
 -- ---- an action at its offset
 
@@ -98,7 +98,7 @@ module _
     fits : Fits
     fits =
         let t = a .tree in
-        let b = tree-bounds (was-read a) in
+        let b = tree-bounds (tree-of a) in
         let k = actions-few t in
         record {
           small = b .size;
@@ -107,11 +107,11 @@ module _
         }
 
     pub initial-ready : Expandable (l .initial) (s + 3) 0 (from (l .initial) file) ws
-    initial-ready = action-ready (initial-at h (was-read a)) (fits .small) (omega (arith, fits .nodes)) (omega (arith, fits .room))
+    initial-ready = action-ready (initial-at h (tree-of a)) (fits .small) (omega (arith, fits .nodes)) (omega (arith, fits .room))
 
     module _ {vs : List ℕ} {x : Next} (first : Expands (l .initial) (initialEnds s d) (s + 3) 0 (from (l .initial) file) ws vs x) (same : length vs ≡ length ws) where
       initial-expanded : Expanded (a .tree .initial) (initialEnds s d) (s + 3) 0 ws vs x
-      initial-expanded = action-expanded (initial-at h (was-read a)) (fits .small) (omega (arith, fits .nodes)) (omega (arith, fits .room)) first
+      initial-expanded = action-expanded (initial-at h (tree-of a)) (fits .small) (omega (arith, fits .nodes)) (omega (arith, fits .room)) first
 
       fallback-nodes : x .node + made (a .tree .fallback) < 2 ^ 32
       fallback-nodes = omega (arith, fits .nodes, initial-expanded .node)
@@ -120,11 +120,11 @@ module _
       fallback-room = omega (arith, fits .room, initial-expanded .step)
 
       pub fallback-ready : Expandable (l .fallback) (x .node) (x .step) (from (l .fallback) file) vs
-      fallback-ready = action-ready (fallback-at h (was-read a)) (fits .small) fallback-nodes fallback-room
+      fallback-ready = action-ready (fallback-at h (tree-of a)) (fits .small) fallback-nodes fallback-room
 
       pub both-wrote :
           {us : List ℕ} {y : Next} → Expands (l .fallback) (fallbackEnds s) (x .node) (x .step) (from (l .fallback) file) vs us y →
           ActionsWrote (a .tree) ws us y
       both-wrote second =
           actions-wrote (a .tree) hs hd (omega (arith, fits .room, actions-length (a .tree))) initial-expanded
-          (action-expanded (fallback-at h (was-read a)) (fits .small) fallback-nodes fallback-room second)
+          (action-expanded (fallback-at h (tree-of a)) (fits .small) fallback-nodes fallback-room second)

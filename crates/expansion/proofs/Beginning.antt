@@ -16,8 +16,8 @@ use Rattle.rules.specs.Accepting.{written}
 use Rattle.rules.specs.Stepping.{beginsWith}
 use Rattle.access.specs.Trees.{AcceptedFile}
 use Rattle.expander.proofs.Words.{table-length}
+use Rattle.access.proofs.Using.{same-accepted}
 use Rattle.expansion.specs.Writing.{HasSteps}
-use Rattle.expansion.proofs.Files.{same-accepted}
 
 -- ---- whether a begins with the first n words of b
 

@@ -21,7 +21,7 @@ use Rattle.access.proofs.Groups.{Entry, group-read}
 use Rattle.access.proofs.Bodies.{steady-transition}
 use Rattle.access.proofs.Items.{laid}
 use Rattle.access.proofs.Finding.{looked}
-use Rattle.access.proofs.Using.{tree-bounds}
+use Rattle.access.proofs.Using.{tree-bounds, tree-of, few-steps}
 use Rattle.expander.specs.declared.Next.{Next}
 use Rattle.expander.specs.Writing.{over, Wrote}
 use Rattle.expander.specs.Transitions.{GoodTransition, transitionSteps, TransitionExpanded, TransitionFit, TransitionExpandable, TransitionExpands}
@@ -29,7 +29,7 @@ use Rattle.expander.proofs.Words.{over-first, wrote-none, wrote-length, wrote-t
 use Rattle.expander.proofs.Counts.{made-few}
 use Rattle.expander.proofs.TransitionLaws.{transitions-more, transition-length, as-transition-steps}
 use Rattle.expansion.specs.Writing.{Writable, actionSteps, actionNodes, ActionsWrote}
-use Rattle.expansion.proofs.Files.{was-read, few-steps, has-room}
+use Rattle.expansion.proofs.Files.{has-room}
 use Rattle.expansion.proofs.Actions.{actions-length, expansion-parts}
 
 -- ---- the i-th transition, at its offset
@@ -158,23 +158,23 @@ module _
     transitions-nodes : x .node + length (expandTransitions (a .tree .transitions) (x .node)) < 2 ^ 32
     transitions-nodes =
         let t = a .tree in
-        let b = tree-bounds (was-read a) in
+        let b = tree-bounds (tree-of a) in
         omega (arith, w .node, count-all, few-steps a, b .fields .few-states, made-few (t .initial), made-few (t .fallback), actions-length t)
 
     module _
         {i at : ℕ} {us : List ℕ} {y : Next} (less : i < l .transitions .count) (e : at ≡ past file (l .transitions .at) i)
         (r : Reached (a .tree .transitions) i x vs us y)
       where
-        next-fit : let s = standing h i at less e (was-read a) .good in TransitionFit (s .tree) (s .at) at (y .node) (y .step) (from at file) us
+        next-fit : let s = standing h i at less e (tree-of a) .good in TransitionFit (s .tree) (s .at) at (y .node) (y .step) (from at file) us
         next-fit =
-            let s = standing h i at less e (was-read a) in
+            let s = standing h i at less e (tree-of a) in
             let f = looked h i at less e .fits in
-            transition-fit r (s .here) transitions-room (s .placed) (omega (arith, tree-bounds (was-read a) .size, from-length at file)) transitions-nodes
+            transition-fit r (s .here) transitions-room (s .placed) (omega (arith, tree-bounds (tree-of a) .size, from-length at file)) transitions-nodes
 
         pub next-ready : TransitionExpandable at (y .node) (y .step) (from at file) us
-        next-ready = (standing h i at less e (was-read a) .good, next-fit)
+        next-ready = (standing h i at less e (tree-of a) .good, next-fit)
 
         pub next-reached :
             {ts : List ℕ} {z : Next} → TransitionExpands at (y .node) (y .step) (from at file) us ts z →
             Reached (a .tree .transitions) (i + 1) x vs ts z
-        next-reached g = let s = standing h i at less e (was-read a) in reached-more r (s .here) transitions-room (g (s .good) next-fit)
+        next-reached g = let s = standing h i at less e (tree-of a) in reached-more r (s .here) transitions-room (g (s .good) next-fit)

@@ -27,7 +27,7 @@ use Rattle.machine.specs.Flows.{flowOf}
 use Rattle.machine.specs.Calls.{Passed}
 use Rattle.machine.proofs.Calls.{sender-refused, lent-refused}
 use Rattle.access.specs.Trees.{AcceptedFile}
-use Rattle.expansion.proofs.Files.{same-accepted}
+use Rattle.access.proofs.Using.{same-accepted}
 use Rattle.walker.specs.declared.Reached.{Reached}
 use Rattle.walker.specs.Tables.{Expanded, Tabled, Listed, Entered}
 use Rattle.walker.specs.Runs.{reachedOf, Walkable, walkIn, walkByIn}

@@ -29,36 +29,26 @@ use Rattle.machine.specs.Calls.{Passed}
 use Rattle.machine.proofs.States.{opening-total}
 use Rattle.machine.proofs.Calls.{first-refused, tests-passed, elsewhere-refused, call-runs, Enters, enters, passed-enters}
 use Rattle.access.specs.Trees.{TreeRead, AcceptedFile}
-use Rattle.access.proofs.Using.{accepted-read, ActionAt, FoundAt}
+use Rattle.access.proofs.Using.{ActionAt, FoundAt}
 use Rattle.actions.specs.declared.Frame.{Frame}
 use Rattle.actions.specs.Frames.{Framed}
 use Rattle.runner.specs.Transitions.{Moves}
 
 -- ---- an accepted file
 
--- its tree was read
-abbrev pub tree-of : {file : List ℕ} → AcceptedFile file → TreeRead file
-tree-of {file} a =
-    let t = accepted-read file (a .tree) (a .is) in
-    record {
-      tree = a .tree;
-      to = t .0 .to;
-      left = t .0 .left;
-      is = t .0 .is ∙ ap (λ (x : Agreement). read x (t .0 .to) (t .0 .left)) (t .1);
-    }
+-- its number of accounts
+pub accounts-few : {file : List ℕ} (a : AcceptedFile file) {f : Fields} → f ≡ a .tree .fields → f .accounts ≤ 8
+accounts-few {file} a e = omega (arith, ap (λ (f : Fields). f .accounts) e, tree-good file (a .tree) (a .is) .tree .fields .few-accounts)
 
--- its number of accounts, as a frame has it
+-- and as a frame has it
 pub few-accounts :
     {file : List ℕ} (a : AcceptedFile file) {c : Setting} {frame : Frame} {arguments : List ℕ} → c .fields ≡ a .tree .fields → Framed c frame arguments →
     frame .accounts ≤ 8
-few-accounts {file} a e h = omega (arith, h .accounts, ap (λ (f : Fields). f .accounts) e, tree-good file (a .tree) (a .is) .tree .fields .few-accounts)
+few-accounts a e h = omega (arith, h .accounts, accounts-few a e)
 
 -- an action at its offset, in the bytes that the code passes on
 pub standing : {file : List ℕ} {at : ℕ} {tree : Stmt} → ActionAt file at tree → (g : Good (from at file)) × (g .tree ≡ tree)
 standing {file} {at} x = let w = x .good (from at file) (from-drop at file) in (w .0, w .2)
-
-pub accounts-few : {file : List ℕ} (a : AcceptedFile file) {f : Fields} → f ≡ a .tree .fields → f .accounts ≤ 8
-accounts-few {file} a e = omega (arith, ap (λ (f : Fields). f .accounts) e, tree-good file (a .tree) (a .is) .tree .fields .few-accounts)
 
 -- ---- starting
 

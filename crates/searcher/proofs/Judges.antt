@@ -7,14 +7,12 @@ use mathlib.Core.Option.{Option, none, some}
 use native.Mathlib.Omega.{arith}
 use lib.ListN.{length, getElem?}
 use Rattle.rules.specs.Syntax.{Expr, Rule, always, notAfter, onlyAfter, Agreement}
-use Rattle.rules.specs.Reading.{read}
 use Rattle.access.specs.declared.Head.{Head}
 use Rattle.access.specs.declared.Layout.{Layout}
 use Rattle.access.specs.Trees.{TreeRead, AcceptedFile}
 use Rattle.access.specs.Places.{past, Laid}
 use Rattle.access.specs.Answers.{headOf}
-use Rattle.access.proofs.Items.{same-tree}
-use Rattle.access.proofs.Using.{accepted-read, condition-at}
+use Rattle.access.proofs.Using.{same-accepted, condition-at}
 use Rattle.runner.specs.declared.Prepared.{Prepared}
 use Rattle.runner.specs.Tables.{Ready}
 use Rattle.runner.proofs.Lent.{file-of}
@@ -46,15 +44,9 @@ held-by file rs i x r at h k f = go x h same
     go (notAfter p q) h s = (sym (ap (λ (r : Head). r .kind) s), sym (ap (λ (r : Head). r .p) s), sym (ap (λ (r : Head). r .q) s))
     go (onlyAfter p q) h s = (sym (ap (λ (r : Head). r .kind) s), sym (ap (λ (r : Head). r .p) s), sym (ap (λ (r : Head). r .q) s))
 
--- the tree of an accepted file was read
-abbrev pub read-of : {file : List ℕ} → AcceptedFile file → TreeRead file
-read-of {file} a =
-    let t = accepted-read file (a .tree) (a .is) in
-    record { tree = a .tree; to = t .0 .to; left = t .0 .left; is = t .0 .is ∙ ap (λ (b : Agreement). read b (t .0 .to) (t .0 .left)) (t .1) }
-
 -- what is used of a prepared file
 pub accepted-of : {file words nodes entries : List ℕ} {p : Prepared} → Ready file words nodes entries p → AcceptedFile file
 accepted-of r = file-of (r .walks .expanded)
 
 pub fields-of : {file words nodes entries : List ℕ} {p : Prepared} → Ready file words nodes entries p → (a : AcceptedFile file) → p .fields ≡ a .tree .fields
-fields-of r a = r .walks .fields ∙ ap (λ (t : Agreement). t .fields) (same-tree (read-of (file-of (r .walks .expanded))) (read-of a))
+fields-of r a = r .walks .fields ∙ ap (λ (t : Agreement). t .fields) (same-accepted (file-of (r .walks .expanded)) a)

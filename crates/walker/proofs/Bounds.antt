@@ -19,30 +19,10 @@ use Rattle.rules.specs.Demands.{All}
 use Rattle.records.proofs.StepCounts.{expand-length}
 use Rattle.forms.proofs.Accepted.{Sound, file-good}
 use Rattle.forms.proofs.Lookups.{all-append, Away, away}
-use Rattle.access.proofs.Using.{accepted-read, tree-bounds}
+use Rattle.access.proofs.Using.{accepted-read, few-steps, tree-bounds}
 use Rattle.expander.proofs.Counts.{made-few}
 use Rattle.walker.specs.Tables.{Tabled, wordAt, stepAt}
 use Rattle.walker.proofs.Tables.{Here, step-here}
-
-few-steps : (file : List ℕ) (a : Agreement) → fileOf file ≡ good a → length (expansion a) ≤ 1024
-unfolding fileOf accepted accept given sized
-few-steps file a h = go (readTree file) h
-  where
-    sizes : (b : Agreement) (x y : Bool) → ltb 1024 (length (expansion b)) ≡ y
-        → (if x then bad (refusalAt 7 0) else if y then bad (refusalAt 8 0) else good b) ≡ good a → length (expansion a) ≤ 1024
-    sizes b true y e h = absurd (let z : _≡_ {A = ℕ} 0 1 = cc in omega arith)
-    sizes b false true e h = absurd (let z : _≡_ {A = ℕ} 0 1 = cc in omega arith)
-    sizes b false false e h =
-        let z : b ≡ a = cc in
-        subst (λ (a : Agreement). length (expansion a) ≤ 1024) z (ltb-false 1024 (length (expansion b)) e)
-
-    repeats : (b : Agreement) (o : Option ℕ) → given (λ at. bad (refusalAt 6 at)) (λ _. sized b) o ≡ good a → length (expansion a) ≤ 1024
-    repeats b (some at) h = absurd (let z : _≡_ {A = ℕ} 0 1 = cc in omega arith)
-    repeats b none h = sizes b (ltb most32 (sum (b .fields .opening))) (ltb 1024 (length (expansion b))) refl h
-
-    go : (r : Reading Agreement) → accepted r ≡ good a → length (expansion a) ≤ 1024
-    go (refused n p) h = absurd (let z : _≡_ {A = ℕ} 0 1 = cc in omega arith)
-    go (read b to left) h = repeats b (firstRepeat [] (b .transitions)) h
 
 transitions-away : (file : List ℕ) (vars S : ℕ) (ts : List Transition) (n p : ℕ) → All (Sound file vars S) ts → S ≤ p → n + length (expandTransitions ts n) ≤ p
     → Away p (expandTransitions ts n)
@@ -71,7 +51,7 @@ none-high file a h p g =
     let R = expandTransitions (a .transitions) k in
     let t = accepted-read file a h in
     let few : a .fields .states ≤ 64 = subst (λ (b : Agreement). b .fields .states ≤ 64) (t .1) (tree-bounds (t .0) .fields .few-states) in
-    let long : length I + length F + length R ≤ 1024 = omega (arith, few-steps file a h, length-append (I ++ F) R, length-append I F) in
+    let long : length I + length F + length R ≤ 1024 = omega (arith, few-steps {file = file} (record { tree = a; is = h }), length-append (I ++ F) R, length-append I F) in
     let i : made (a .initial) < length I = omega (arith, made-few (a .initial), expand-length (a .initial) (S + 2) s s (S + 3)) in
     let f : made (a .fallback) < length F = omega (arith, made-few (a .fallback), expand-length (a .fallback) (S + 1) S S n) in
     all-append (I ++ F) R
@@ -92,7 +72,7 @@ pub record Within (words : List ℕ) (steps : List Step) (i : ℕ) : Type 0 wher
 
 module _ {words : List ℕ} {count : ℕ} (t : Tabled words count) where
   pub few : count ≤ 1024
-  few = omega (arith, t .counts, few-steps (t .file) (t .expanded .tree) (t .expanded .is))
+  few = omega (arith, t .counts, few-steps {file = t .file} (record { tree = t .expanded .tree; is = t .expanded .is }))
 
   pub within : (i : ℕ) → i < count → Within words (expansion (t .expanded .tree)) i
   within i h =

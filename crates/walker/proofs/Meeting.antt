@@ -10,7 +10,6 @@ use lib.ListN.{length, getElem?, drop}
 use Rattle.rules.specs.Syntax.{Expr, Simple, Agreement}
 use Rattle.rules.specs.Reading.{exprAt, simpleAt}
 use Rattle.rules.specs.Expanding.{Step, step, expansion}
-use Rattle.rules.specs.Accepting.{good}
 use Rattle.rules.specs.Stepping.{leaving, stepFrom, targetIn}
 use Rattle.records.specs.Checking.{from}
 use Rattle.records.specs.Acceptance.{Accepted, GoodSimple}
@@ -18,7 +17,7 @@ use Rattle.records.proofs.Accepts as expressions
 use Rattle.records.proofs.Simples as simples
 use Rattle.records.proofs.Parts.{from-length}
 use Rattle.forms.proofs.Accepted.{file-good}
-use Rattle.access.proofs.Using.{accepted-read, tree-bounds}
+use Rattle.access.proofs.Using.{accepted-read, tree-bounds, same-accepted}
 use Rattle.actions.proofs.Offsets.{expr-at, simple-at}
 use Rattle.walker.specs.Runs.{Ready, Enterable}
 use Rattle.walker.specs.Tables.{Expanded, wordAt, stepAt, placeFrom, GuardAt}
@@ -28,7 +27,7 @@ use Rattle.walker.proofs.Places.{Leaving, guarding, performing, decidin
 
 -- the file has one tree
 pub same-tree : {file words : List ℕ} (a b : Expanded file words) → a .tree ≡ b .tree
-same-tree a b = let p = a .is in let q = b .is in let z : good (a .tree) ≡ good (b .tree) = sym p ∙ q in cc
+same-tree a b = same-accepted (record { tree = a .tree; is = a .is }) (record { tree = b .tree; is = b .is })
 
 -- a step that is ready is so for every tree of the file
 pub first-of : {file words : List ℕ} {i : ℕ} (r : Ready file words i) (a : Expanded file words) → placeFrom 0 (expansion (a .tree)) (r .node) ≡ suc i

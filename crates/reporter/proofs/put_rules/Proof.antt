@@ -15,8 +15,7 @@ use Rattle.rules.specs.Judging.{isCompleted, verdict}
 use Rattle.rules.specs.Reporting.{ruleLine, ruleLines}
 use Rattle.access.specs.Trees.{AcceptedFile}
 use Rattle.access.specs.Places.{Laid}
-use Rattle.access.proofs.Using.{counts, tree-bounds}
-use Rattle.runner.proofs.Runs.{tree-of}
+use Rattle.access.proofs.Using.{counts, tree-bounds, tree-of}
 use Rattle.reporter.specs.Texts.{Put}
 use Rattle.reporter.proofs.Texts.{then-put, put-none, each-more}
 use Rattle.reporter.proofs.put_rules.Statement.{statement}

@@ -6,7 +6,7 @@ use lib.ListN.{take, length-replicate}
 use borrow.Author.Needs.{needs}
 use denote.Ref.{now}
 use Rattle.rules.specs.Stepping.{beginsWith}
-use Rattle.expansion.proofs.Files.{few-steps}
+use Rattle.access.proofs.Using.{few-steps}
 use Rattle.expansion.proofs.Beginning.{steps-are, written-begins}
 use Rattle.expansion.proofs.comparing.is_expansion.Statement.{statement}
 use Rattle.expansion.proofs.comparing.is_expansion.Tie as tie

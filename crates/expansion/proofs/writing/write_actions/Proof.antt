@@ -7,8 +7,7 @@ use borrow.Author.Needs.{needs}
 use denote.Ref.{now}
 use Rattle.rules.specs.declared.Fields.{Fields}
 use Rattle.access.specs.Trees.{AcceptedFile}
-use Rattle.access.proofs.Using.{initial-at, fallback-at}
-use Rattle.expansion.proofs.Files.{was-read}
+use Rattle.access.proofs.Using.{initial-at, fallback-at, tree-of}
 use Rattle.expansion.proofs.Actions.{initial-ready, fallback-ready, both-wrote}
 use Rattle.expansion.proofs.writing.write_actions.Statement.{statement}
 use Rattle.expansion.proofs.writing.write_actions.Tie as tie
@@ -18,19 +17,19 @@ begin w = w .before .before .before .before .before
 
 -- the numbers of the states and of the start state, for a file that is accepted
 states : (w : tie.After-wide2) (a : AcceptedFile (now (begin w .args .file))) → w .before .wide .result ≡ a .tree .fields .states
-states w a = w .before .wide .ensures ∙ ap (λ (f : Fields). f .states) (w .before .before .fields .ensures (was-read a))
+states w a = w .before .wide .ensures ∙ ap (λ (f : Fields). f .states) (w .before .before .fields .ensures (tree-of a))
 
 start : (w : tie.After-wide2) (a : AcceptedFile (now (begin w .args .file))) → w .wide2 .result ≡ a .tree .fields .start
-start w a = w .wide2 .ensures ∙ ap (λ (f : Fields). f .start) (w .before .before .fields .ensures (was-read a))
+start w a = w .wide2 .ensures ∙ ap (λ (f : Fields). f .start) (w .before .before .fields .ensures (tree-of a))
 
 fields-requires : tie.Need-fields-requires
-fields-requires c κs = was-read (c .before .before .pre .1 .accepted)
+fields-requires c κs = tree-of (c .before .before .pre .1 .accepted)
 
 initial-within : (w : tie.After-wide2) → begin w .args .l .initial ≤ length (now (begin w .args .file))
-initial-within w = let p = begin w .pre in omega (arith, initial-at (p .0) (was-read (p .1 .accepted)) .fits)
+initial-within w = let p = begin w .pre in omega (arith, initial-at (p .0) (tree-of (p .1 .accepted)) .fits)
 
 fallback-within : (w : tie.After-wide2) → begin w .args .l .fallback ≤ length (now (begin w .args .file))
-fallback-within w = let p = begin w .pre in omega (arith, fallback-at (p .0) (was-read (p .1 .accepted)) .fits)
+fallback-within w = let p = begin w .pre in omega (arith, fallback-at (p .0) (tree-of (p .1 .accepted)) .fits)
 
 sub-expand-statement : tie.Need-sub-expand-statement
 sub-expand-statement c = initial-within c

@@ -9,8 +9,8 @@ use Rattle.access.specs.Trees.{AcceptedFile}
 use Rattle.access.specs.Places.{past, Laid}
 use Rattle.access.proofs.Groups.{further}
 use Rattle.access.proofs.Finding.{Looked, looked, all-passed}
-use Rattle.access.proofs.Using.{counts, tree-bounds}
-use Rattle.expansion.proofs.Files.{was-read, has-room}
+use Rattle.access.proofs.Using.{counts, tree-bounds, tree-of}
+use Rattle.expansion.proofs.Files.{has-room}
 use Rattle.expansion.proofs.Transitions.{Reached, reached-none, next-ready, next-reached, all-written}
 use Rattle.expansion.proofs.writing.write_expansion.Statement.{statement}
 use Rattle.expansion.proofs.writing.write_expansion.Tie as tie
@@ -28,7 +28,7 @@ abbrev μ-loop : tie.MeasureT-loop
 -- the file is laid out as the code finds it
 layout-found : (c : tie.After-layout Inv-loop μ-loop) → Laid (now (c .before .before .before .args .file)) (c .layout .result)
 layout-found c =
-    let t = was-read (c .before .before .before .pre .accepted) in
+    let t = tree-of (c .before .before .before .pre .accepted) in
     record { read = t; out = c .layout .ensures t }
 
 -- the actions have been written here, and the layout was found here
@@ -50,7 +50,7 @@ few c =
     omega (arith, counts h (h .read) .0, tree-bounds (h .read) .transitions)
 
 layout-requires : tie.Need-layout-requires Inv-loop μ-loop
-layout-requires c κs = was-read (c .before .before .pre .accepted)
+layout-requires c κs = tree-of (c .before .before .pre .accepted)
 
 write-actions-requires : tie.Need-write-actions-requires Inv-loop μ-loop
 write-actions-requires c κs = (layout-found (c .before), c .before .before .before .before .pre)
@@ -104,7 +104,7 @@ returns c =
     λ a.
     let l = c .before in
     all-written (a .tree) (has-room (begin l .pre) a) (acted l .write-actions .ensures a) (l .loop .inv .3 a)
-    (all-passed (layout-found (found l)) (was-read a) (l .loop .i) (omega arith))
+    (all-passed (layout-found (found l)) (tree-of a) (l .loop .i) (omega arith))
 
 pub write-expansion-spec : {M : Type 1} → statement M
 write-expansion-spec =

@@ -5,7 +5,8 @@ use borrow.Author.Needs.{needs}
 use denote.Ref.{now}
 use Rattle.machine.proofs.Calls.{first-passed, numbered-some, numbered-none}
 use Rattle.access.specs.Trees.{AcceptedFile}
-use Rattle.runner.proofs.Runs.{tree-of, accounts-few, call-refused, tree-call}
+use Rattle.access.proofs.Using.{tree-of}
+use Rattle.runner.proofs.Runs.{accounts-few, call-refused, tree-call}
 use Rattle.runner.proofs.accepted.call_accepted.Statement.{statement}
 use Rattle.runner.proofs.accepted.call_accepted.Tie as tie
 

@@ -11,8 +11,8 @@ use Rattle.machine.proofs.Calls.{Enters}
 use Rattle.machine.proofs.Lengths.{state-lengths}
 use Rattle.access.specs.Trees.{AcceptedFile}
 use Rattle.access.specs.Places.{Laid}
-use Rattle.access.proofs.Using.{ActionAt, FoundAt, fallback-at, find-at, find-elsewhere, find-unknown}
-use Rattle.runner.proofs.Runs.{tree-of, standing, few-accounts, moves, call-enters, tree-elsewhere, tree-unknown, tree-found}
+use Rattle.access.proofs.Using.{ActionAt, FoundAt, fallback-at, find-at, find-elsewhere, find-unknown, tree-of}
+use Rattle.runner.proofs.Runs.{standing, few-accounts, moves, call-enters, tree-elsewhere, tree-unknown, tree-found}
 use Rattle.runner.proofs.accepted.call_passed.Statement.{statement}
 use Rattle.runner.proofs.accepted.call_passed.Tie as tie
 

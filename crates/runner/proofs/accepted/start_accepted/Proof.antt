@@ -8,8 +8,8 @@ use Rattle.rules.specs.Running
 use Rattle.machine.specs.Flows.{flowOf}
 use Rattle.machine.proofs.Calls.{Enters}
 use Rattle.access.specs.Trees.{AcceptedFile}
-use Rattle.access.proofs.Using.{ActionAt, initial-at}
-use Rattle.runner.proofs.Runs.{tree-of, standing, few-accounts, start-enters, start-is}
+use Rattle.access.proofs.Using.{ActionAt, initial-at, tree-of}
+use Rattle.runner.proofs.Runs.{standing, few-accounts, start-enters, start-is}
 use Rattle.runner.proofs.accepted.start_accepted.Statement.{statement}
 use Rattle.runner.proofs.accepted.start_accepted.Tie as tie
 

@@ -10,9 +10,8 @@ use borrow.Author.Tests.{not-true, not-false}
 use denote.Ref.{now}
 use Rattle.rules.specs.Expanding.{expansion}
 use Rattle.access.specs.Trees.{AcceptedFile}
-use Rattle.expansion.proofs.Files.{few-steps}
 use Rattle.walker.specs.Tables.{Expanded}
-use Rattle.runner.proofs.Runs.{tree-of}
+use Rattle.access.proofs.Using.{tree-of, few-steps}
 use Rattle.runner.proofs.Lent.{lent-sender, lent-words, few-tested, other-tested, call-lent, tabled}
 use Rattle.runner.proofs.expanded.call_lent.Statement.{statement}
 use Rattle.runner.proofs.expanded.call_lent.Tie as tie

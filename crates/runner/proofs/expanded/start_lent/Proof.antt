@@ -8,9 +8,8 @@ use borrow.Author.Needs.{needs}
 use borrow.Author.Tests.{not-true, not-false}
 use denote.Ref.{now}
 use Rattle.rules.specs.Expanding.{expansion}
-use Rattle.expansion.proofs.Files.{few-steps}
 use Rattle.walker.specs.Tables.{Expanded}
-use Rattle.runner.proofs.Runs.{tree-of}
+use Rattle.access.proofs.Using.{tree-of, few-steps}
 use Rattle.runner.proofs.Lent.{few-tested, other-tested, start-refused, start-lent, tabled}
 use Rattle.runner.proofs.expanded.start_lent.Statement.{statement}
 use Rattle.runner.proofs.expanded.start_lent.Tie as tie

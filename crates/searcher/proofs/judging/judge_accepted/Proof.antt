@@ -10,9 +10,9 @@ use Rattle.rules.specs.Syntax.{Rule}
 use Rattle.rules.specs.Judging.{judgedOf}
 use Rattle.access.specs.Trees.{AcceptedFile}
 use Rattle.access.proofs.Items.{rule-at}
-use Rattle.access.proofs.Using.{counts, tree-bounds}
+use Rattle.access.proofs.Using.{counts, tree-bounds, tree-of}
 use Rattle.searcher.specs.Searching.{Planned}
-use Rattle.searcher.proofs.Judges.{read-of, accepted-of, fields-of}
+use Rattle.searcher.proofs.Judges.{accepted-of, fields-of}
 use Rattle.searcher.proofs.Lists.{few-rows, shows-none}
 use Rattle.searcher.proofs.Runs.{ruling-by}
 use Rattle.searcher.proofs.judging.judge_accepted.Statement.{statement}
@@ -20,13 +20,13 @@ use Rattle.searcher.proofs.judging.judge_accepted.Tie as tie
 
 -- the rule that is judged
 rule-here : (s : tie.Start) → (x : Rule) × (getElem? (accepted-of (s .pre .0) .tree .rules) (s .args .i) ≡ some x)
-rule-here s = let x = rule-at (s .pre .1) (s .args .i) (s .pre .2) (read-of (accepted-of (s .pre .0))) _ refl in (x .value, x .here)
+rule-here s = let x = rule-at (s .pre .1) (s .args .i) (s .pre .2) (tree-of (accepted-of (s .pre .0))) _ refl in (x .value, x .here)
 
 at-first-requires : tie.Need-at-first-requires
 at-first-requires c κs =
     let s = c .before .before .before .before in
     let x = rule-here s in
-    (x .0, c .before .judge-at .ensures (read-of (accepted-of (s .pre .0))) (x .0) (x .1))
+    (x .0, c .before .judge-at .ensures (tree-of (accepted-of (s .pre .0))) (x .0) (x .1))
 
 cast-t17 : tie.Need-cast-t17
 cast-t17 c = omega (arith, few-rows (c .before .before .before .before .before .before .pre .1))
@@ -44,16 +44,16 @@ planned c a x h =
       accepted = a;
       ready = s .pre .0;
       rule = x;
-      holds = r .before .judge-at .ensures (read-of a) x h;
+      holds = r .before .judge-at .ensures (tree-of a) x h;
       few = few-rows (s .pre .1);
-      rows = r .lay-down-rows .ensures (read-of a);
+      rows = r .lay-down-rows .ensures (tree-of a);
     }
 
 search-requires : tie.Need-search-requires
 search-requires c κs =
     let s = c .before .before .before .before .before .before .before .before in
     let x = rule-here s in
-    let b = tree-bounds (read-of (accepted-of (s .pre .0))) .fields .small-depth in
+    let b = tree-bounds (tree-of (accepted-of (s .pre .0))) .fields .small-depth in
     (planned c (accepted-of (s .pre .0)) (x .0) (x .1), shows-none, omega (arith, ap (λ (f : Fields). f .depth) (fields-of (s .pre .0) (accepted-of (s .pre .0))), b))
 
 returns : tie.Need-returns
@@ -62,8 +62,8 @@ returns c = λ a x h fresh.
     let s = f .before .before .before .before .before in
     let fields = fields-of (s .pre .0) a in
     c .search .ensures (planned (c .before) a x h)
-    ∙ ap judgedOf (ruling-by (a .tree) x (s .args .fresh) (f .at-first .result) _ fresh (f .at-first .ensures x (f .before .before .judge-at .ensures (read-of a) x h)) _ _ _
-    (ap (λ (f : Fields). f .bound) fields) (counts (s .pre .1) (read-of a) .1) (ap (λ (f : Fields). f .depth) fields))
+    ∙ ap judgedOf (ruling-by (a .tree) x (s .args .fresh) (f .at-first .result) _ fresh (f .at-first .ensures x (f .before .before .judge-at .ensures (tree-of a) x h)) _ _ _
+    (ap (λ (f : Fields). f .bound) fields) (counts (s .pre .1) (tree-of a) .1) (ap (λ (f : Fields). f .depth) fields))
 
 pub judge-accepted-spec : {M : Type 1} → statement M
 judge-accepted-spec =

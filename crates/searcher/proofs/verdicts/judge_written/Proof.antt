@@ -1,7 +1,7 @@
 -- The index is made once, and then the rule is judged.
 use borrow.Author.Needs.{needs}
 use Rattle.runner.proofs.Lent.{file-of, tabled}
-use Rattle.searcher.proofs.Judges.{read-of}
+use Rattle.access.proofs.Using.{tree-of}
 use Rattle.searcher.proofs.verdicts.judge_written.Statement.{statement}
 use Rattle.searcher.proofs.verdicts.judge_written.Tie as tie
 
@@ -12,7 +12,7 @@ index-entries-requires : tie.Need-index-entries-requires
 index-entries-requires c κs = let w = c .before .before .before .pre .0 in tabled (w .expanded) (w .counts)
 
 fields-requires : tie.Need-fields-requires
-fields-requires c κs = read-of (file-of (c .before .before .before .before .before .pre .0 .expanded))
+fields-requires c κs = tree-of (file-of (c .before .before .before .before .before .pre .0 .expanded))
 
 judge-accepted-requires : tie.Need-judge-accepted-requires
 judge-accepted-requires c κs =
@@ -22,7 +22,7 @@ judge-accepted-requires c κs =
         walks = record {
           expanded = w .expanded;
           indexed = c .before .before .before .before .before .index-nodes .ensures _ (w .expanded) (w .counts);
-          fields = c .before .before .fields .ensures (read-of (file-of (w .expanded)));
+          fields = c .before .before .fields .ensures (tree-of (file-of (w .expanded)));
         };
         entered = c .before .before .before .before .index-entries .ensures _ (w .expanded) (w .counts);
       },

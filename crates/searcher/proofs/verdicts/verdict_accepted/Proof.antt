@@ -17,18 +17,16 @@ use Rattle.rules.specs.Calling.{startTree}
 use Rattle.rules.specs.Judging.{isCompleted}
 use Rattle.access.specs.Places.{Laid}
 use Rattle.access.proofs.Items.{rule-at}
-use Rattle.access.proofs.Using.{counts}
-use Rattle.expansion.proofs.Files.{few-steps}
-use Rattle.searcher.proofs.Judges.{read-of}
+use Rattle.access.proofs.Using.{counts, tree-of, few-steps}
 use Rattle.searcher.proofs.Answers.{no-rule, few-words, failed-start, was-judged, written-words}
 use Rattle.searcher.proofs.verdicts.verdict_accepted.Statement.{statement}
 use Rattle.searcher.proofs.verdicts.verdict_accepted.Tie as tie
 
 layout-requires : tie.Need-layout-requires
-layout-requires c κs = read-of (c .before .before .pre .0)
+layout-requires c κs = tree-of (c .before .before .pre .0)
 
 laid : (c : tie.After-layout) → Laid (now (c .before .before .before .args .file)) (c .layout .result)
-laid c = let a = c .before .before .before .pre .0 in record { read = read-of a; out = c .layout .ensures (read-of a) }
+laid c = let a = c .before .before .before .pre .0 in record { read = tree-of a; out = c .layout .ensures (tree-of a) }
 
 returns : tie.Need-returns
 returns c =
@@ -36,13 +34,13 @@ returns c =
     let s = l .before .before .before in
     let a = s .pre .0 in
     rw (c .unshown .ensures, c .before .refusal .ensures)
-    (no-rule a (now (s .args .words)) (s .args .i) (omega (arith, c .before .before .if1 .taken, counts (laid l) (read-of a) .2)))
+    (no-rule a (now (s .args .words)) (s .args .i) (omega (arith, c .before .before .if1 .taken, counts (laid l) (tree-of a) .2)))
 
 -- the rule
 rule-here : (c : tie.Else1) → (x : Rule) × (getElem? (c .before .before .before .before .before .pre .0 .tree .rules) (c .before .before .before .before .before .args .i) ≡ some x)
 rule-here c =
     let s = c .before .before .before .before .before in
-    let x = rule-at (laid (c .before .before)) (s .args .i) (omega (arith, c .if1 .left)) (read-of (s .pre .0)) _ refl in
+    let x = rule-at (laid (c .before .before)) (s .args .i) (omega (arith, c .if1 .left)) (tree-of (s .pre .0)) _ refl in
     (x .value, x .here)
 
 mul-if2 : tie.Need-mul-if2
