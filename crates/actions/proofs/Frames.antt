@@ -9,9 +9,7 @@ use Rattle.rules.specs.declared.Machine.{Machine}
 use Rattle.rules.specs.Syntax.{Expr, Simple, Stmt}
 use Rattle.rules.specs.Values.{View}
 use Rattle.rules.specs.Running.{Setting, view, perform, condition, guarded, statement}
-use Rattle.machine.specs.declared.Flow.{Flow}
-use Rattle.machine.specs.declared.Tested.{Tested}
-use Rattle.machine.specs.Flows.{flowOf, testedOf}
+use Rattle.machine.specs.Flows.{Flow, Tested, flowOf, testedOf}
 use Rattle.machine.proofs.Keeping.{Kept, Room, flow-keeps, test-keeps, perform-keeps, condition-keeps, guarded-keeps, statement-keeps}
 use Rattle.forms.proofs.Units.{goes, Costs, condition-costs}
 use Rattle.actions.specs.declared.Frame.{Frame}

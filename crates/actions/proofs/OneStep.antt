@@ -16,8 +16,7 @@ use Rattle.rules.specs.Reading.{sizeOf, kindOf}
 use Rattle.records.specs.Acceptance.{Good}
 use Rattle.records.proofs.Goods as laws
 use Rattle.records.proofs.Goods.{OneStep}
-use Rattle.machine.specs.declared.Flow.{Flow}
-use Rattle.machine.specs.Flows.{flowOf, Target, assignValue, payValues, answerValue, demandValue}
+use Rattle.machine.specs.Flows.{Flow, flowOf, Target, assignValue, payValues, answerValue, demandValue}
 use Rattle.machine.proofs.Performing.{perform-set, perform-transfer, perform-require, perform-return}
 
 pub target-of : (t : ℕ) → (t < 256 → t < 16) → t < 264 → Target t

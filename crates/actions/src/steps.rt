@@ -2,98 +2,126 @@
 // This serves our own crates only: a caller has to see that the bytes were accepted, and that the total fits 32 bits.
 use crate::Frame;
 use crate::expressions::evaluate;
-use machine::Flow;
-use machine::Tested;
+use machine::Decided;
+use machine::Numbers;
+use machine::Progress;
 use machine::run;
 use machine::run::answer_value;
 use machine::run::assign_value;
 use machine::run::charge;
-use machine::run::is_going;
 use machine::run::pay_values;
 use machine::run::require;
 use records::bytes::u16_at;
-use rules::Machine;
 use rules::Value;
 ghost use mathlib.Core.Path.{_≡_};
-ghost use Prim.Native.Nat.{_≤_};
-ghost use Rattle.rules.specs.Values.{evaluate as valueOf};
+ghost use mathlib.Core.List.{List};
+ghost use Prim.Native.Nat.{ℕ};
+ghost use Rattle.rules.specs.Values.{evaluate as valueIn};
 ghost use Rattle.rules.specs.Running.{Setting, view, perform as performed, condition, guarded};
 ghost use Rattle.records.specs.Acceptance.{Accepted, GoodSimple};
-ghost use Rattle.machine.specs.Flows.{flowOf, testedOf, Solvent};
+ghost use Rattle.machine.specs.Flows.{machineOf, flowIn, testedIn, flowOf, testedOf, Funded};
 ghost use Rattle.actions.specs.Frames.{Framed};
 
 // The value of an expression on a machine.
-fn value(s: &[u8], m: Machine, frame: Frame, arguments: &[u32; 4]) -> Value
+fn value<'a>(
+    s: &[u8],
+    variables: &'a [u32; 16],
+    locals: &'a [u32; 8],
+    n: Numbers,
+    frame: Frame,
+    arguments: &'a [u32; 4],
+) -> Value
     requires { ⌜ Accepted (now s) ⌝ }
-    ensures { λ r. ⌜ ((a : Accepted (now (s .entry))) (c : Setting) →
-        Framed c frame (now (arguments .entry)) → r ≡ valueOf (view c m) (a .tree)) ⌝ }
+    ensures { λ r. ⌜ ((a : Accepted (now (s .entry))) (c : Setting) → Framed c frame (now (arguments .entry)) → (bs : List ℕ) →
+        r ≡ valueIn (view c (machineOf (now (variables .entry)) (now (locals .entry)) bs n)) (a .tree)) ⌝ }
 {
-    let variables = m.variables;
-    let locals = m.locals;
-    let context = [frame.sender, frame.coins, m.own, frame.before];
-    evaluate(s, &variables, &locals, arguments, &context)
+    let context = [frame.sender, frame.coins, n.own, frame.before];
+    evaluate(s, variables, locals, arguments, &context)
 }
 
 // The condition of an if, a while or a for.
-pub fn test(s: &[u8], m: Machine, frame: Frame, arguments: &[u32; 4]) -> Tested
+pub fn test<'a>(
+    s: &[u8],
+    variables: &'a [u32; 16],
+    locals: &'a [u32; 8],
+    n: Numbers,
+    frame: Frame,
+    arguments: &'a [u32; 4],
+) -> Decided
     requires { ⌜ Accepted (now s) ⌝ }
-    ensures { λ r. ⌜ ((a : Accepted (now (s .entry))) (c : Setting) →
-        Framed c frame (now (arguments .entry)) → r ≡ testedOf (condition c (a .tree) m)) ⌝ }
+    ensures { λ r. ⌜ ((bs : List ℕ) (a : Accepted (now (s .entry))) (c : Setting) → Framed c frame (now (arguments .entry)) →
+        testedIn (now (variables .entry)) (now (locals .entry)) bs r
+        ≡ testedOf (condition c (a .tree) (machineOf (now (variables .entry)) (now (locals .entry)) bs n))) ⌝ }
 {
-    let f = charge(m, frame.limit);
-    let how = f.how;
-    let w = f.machine;
-    if is_going(how) {
-        run::test(w, value(s, w, frame, arguments))
-    } else {
-        Tested {
-            how,
+    let p = charge(n, frame.limit);
+    let m = p.numbers;
+    if 0 < p.code {
+        return Decided {
+            code: p.code,
             holds: false,
-            machine: w,
-        }
+            numbers: m,
+        };
     }
+    run::test(m, value(s, variables, locals, m, frame, arguments))
 }
 
 // A transition's guard.
-pub fn guard(s: &[u8], m: Machine, frame: Frame, arguments: &[u32; 4]) -> Flow
+pub fn guard<'a>(
+    s: &[u8],
+    variables: &'a [u32; 16],
+    locals: &'a [u32; 8],
+    n: Numbers,
+    frame: Frame,
+    arguments: &'a [u32; 4],
+) -> Progress
     requires { ⌜ Accepted (now s) ⌝ }
-    ensures { λ r. ⌜ ((a : Accepted (now (s .entry))) (c : Setting) →
-        Framed c frame (now (arguments .entry)) → r ≡ flowOf (guarded c (a .tree) m)) ⌝ }
+    ensures { λ r. ⌜ ((bs : List ℕ) (a : Accepted (now (s .entry))) (c : Setting) → Framed c frame (now (arguments .entry)) →
+        flowIn (now (variables .entry)) (now (locals .entry)) bs r
+        ≡ flowOf (guarded c (a .tree) (machineOf (now (variables .entry)) (now (locals .entry)) bs n))) ⌝ }
 {
-    let f = charge(m, frame.limit);
-    let how = f.how;
-    if is_going(how) {
-        let w = f.machine;
-        run::guard(w, value(s, w, frame, arguments))
-    } else {
-        f
+    let p = charge(n, frame.limit);
+    if 0 < p.code {
+        return p;
     }
+    let m = p.numbers;
+    run::guard(m, value(s, variables, locals, m, frame, arguments))
 }
 
 // A set, transfer, require or return: inside a tree, and at a file offset.
-pub fn perform(s: &[u8], m: Machine, frame: Frame, arguments: &[u32; 4]) -> Flow
-    requires { ⌜ GoodSimple (now s) × (frame .accounts ≤ 8) × Solvent m ⌝ }
-    ensures { λ r. ⌜ ((a : GoodSimple (now (s .entry))) (c : Setting) →
-        Framed c frame (now (arguments .entry)) → r ≡ flowOf (performed c (a .tree) m)) ⌝ }
+pub fn perform(
+    s: &[u8],
+    variables: &mut [u32; 16],
+    locals: &mut [u32; 8],
+    balances: &mut [u32; 8],
+    n: Numbers,
+    frame: Frame,
+    arguments: &[u32; 4],
+) -> Progress
+    requires { ⌜ GoodSimple (now s) × Funded (frame .accounts) (machineOf (now variables) (now locals) (now balances) n) ⌝ }
+    ensures { λ r. ⌜ ((a : GoodSimple (now (s .entry))) (c : Setting) → Framed c frame (now (arguments .entry)) →
+        flowIn (now (variables .exit)) (now (locals .exit)) (now (balances .exit)) r
+        ≡ flowOf (performed c (a .tree) (machineOf (now (variables .entry)) (now (locals .entry)) (now (balances .entry)) n))) ⌝ }
 {
-    let f = charge(m, frame.limit);
-    let how = f.how;
-    if !is_going(how) {
-        return f;
+    let p = charge(n, frame.limit);
+    if 0 < p.code {
+        return p;
     }
-    let w = f.machine;
-    let n = u16_at(s, 0);
+    let m = p.numbers;
+    let end = u16_at(s, 0);
     match u16_at(s, 2) {
-        16 => assign_value(w, u16_at(s, 4), value(&s[6..n], w, frame, arguments)),
+        16 => {
+            let v = value(&s[6..end], variables, locals, m, frame, arguments);
+            assign_value(variables, locals, m, u16_at(s, 4), v)
+        }
         17 => {
             let k = 4 + u16_at(s, 4);
-            let account = value(&s[4..n], w, frame, arguments);
-            let amount = value(&s[k..n], w, frame, arguments);
-            pay_values(w, frame.accounts, account, amount)
+            let account = value(&s[4..end], variables, locals, m, frame, arguments);
+            let amount = value(&s[k..end], variables, locals, m, frame, arguments);
+            pay_values(balances, m, frame.accounts, account, amount)
         }
-        18 => require(w, value(&s[4..n], w, frame, arguments)),
-        19 => answer_value(w, value(&s[4..n], w, frame, arguments)),
+        18 => require(m, value(&s[4..end], variables, locals, m, frame, arguments)),
+        19 => answer_value(m, value(&s[4..end], variables, locals, m, frame, arguments)),
         // No other kind is accepted.
-        _ => f,
+        _ => p,
     }
 }

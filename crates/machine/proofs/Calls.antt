@@ -1,13 +1,13 @@
 -- How a run ends, from its flow; and what a call's tests make of it, on both forms.
 -- Assumes nothing.
-use Prim.Native.Nat.{ℕ, zero, suc, _≤_, _<_}
+use Prim.Native.Nat.{ℕ, zero, suc, _-_, _≤_, _<_}
 use mathlib.Core.Path.{_≡_, refl}
 use mathlib.Core.Bool.{Bool, true, false}
 use mathlib.Core.List.{List, [], _∷_, _++_}
 use mathlib.Core.Option.{Option, none, some}
 use native.Mathlib.Omega.{arith}
 use lib.Dec.{ltb, leb}
-use lib.ListN.{length, getD}
+use lib.ListN.{length, length-set, getD}
 use borrow.Author.Tests.{leb-false, ltb-false}
 use Rattle.rules.specs.declared.Call.{Call}
 use Rattle.rules.specs.declared.Fields.{Fields}
@@ -17,8 +17,7 @@ use Rattle.rules.specs.Basics.{if_then_else_, firstOf, given, sum, most32}
 use Rattle.rules.specs.Accepting.{refusal}
 use Rattle.rules.specs.Running.{Setting, Run, going, returned, stopped}
 use Rattle.rules.specs.Calling.{End, leads, endsIn, total, unfit, refusedCall, entered, called, callTests, callSetting, callBy}
-use Rattle.machine.specs.declared.Flow.{Flow}
-use Rattle.machine.specs.Flows.{flowOf, Solvent}
+use Rattle.machine.specs.Flows.{Flow, flowOf, Solvent, Funded}
 use Rattle.machine.specs.Calls.{endOf, numbered, Passed}
 use Rattle.machine.proofs.States.{fit, entered-total}
 
@@ -106,6 +105,10 @@ module _ (f : Fields) (s : State) (k : Call) (run : Setting → Machine → End)
 
 -- ---- what a call that passed its tests enters with
 
+entered-length : (k : Call) (s : State) → length (entered k s .balances) ≡ length (s .balances)
+unfolding entered
+entered-length k s = length-set (s .balances) (k .sender) (getD (s .balances) (k .sender) 0 - k .coins)
+
 -- what `entered` asks for, and that the machine it makes is solvent
 pub record Enters (s : State) (k : Call) : Type 0 where
   pub sender : k .sender < 8
@@ -122,3 +125,6 @@ pub passed-enters :
     {f : Fields} {s : State} {k : Call} → Passed f s k → length (s .balances) ≡ 8 → f .accounts ≤ 8 → sum (f .opening) ≤ most32 → Enters s k
 passed-enters {f} {s} {k} p full few small =
     enters s k full (omega (arith, leb-false (f .accounts) (k .sender) (p .account))) (ltb-false _ _ (p .paid)) (omega (arith, fit f s (p .fits)))
+
+pub enters-funded : {s : State} {k : Call} {a : ℕ} → Enters s k → a ≤ 8 → length (s .balances) ≡ 8 → Funded a (entered k s)
+enters-funded {s} {k} e few full = record { few = few; room = omega (arith, entered-length k s); solvent = e .solvent }

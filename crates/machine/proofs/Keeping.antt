@@ -16,9 +16,7 @@ use Rattle.rules.specs.Syntax.{Stmt, simple, block, ifThen, ifElse, while, for,
 use Rattle.rules.specs.Values.{evaluate, isTrue}
 use Rattle.rules.specs.Running.{Setting, Run, going, returned, stopped, Exec, Action, after, skip, stop, orStop, view, value}
 use Rattle.rules.specs.Running.{charge, assign, pay, answer, perform, condition, loop, repeat, statement, statements, guarded}
-use Rattle.machine.specs.declared.Flow.{Flow}
-use Rattle.machine.specs.declared.Tested.{Tested}
-use Rattle.machine.specs.Flows.{flowOf, testedOf, funds, Solvent}
+use Rattle.machine.specs.Flows.{Flow, Tested, flowOf, testedOf, funds, Solvent, Funded}
 use Rattle.machine.specs.Flows.{assignValue, payValues, answerValue, demandValue, testValue}
 use Rattle.machine.proofs.Sums.{sum-set}
 
@@ -51,6 +49,9 @@ test-keeps (stopped n w) f e h = rw e h
 
 pub still-solvent : {l : ℕ} {m w : Machine} → Kept l m w → Solvent m → Solvent w
 still-solvent k h = omega (arith, k .total)
+
+pub still-funded : {l a : ℕ} {m w : Machine} → Kept l m w → Funded a m → Funded a w
+still-funded k h = record { few = h .few; room = omega (arith, k .balances, h .room); solvent = still-solvent k (h .solvent) }
 
 pub kept-same : (l : ℕ) (m : Machine) → Kept l m m
 kept-same l m = record { total = refl; variables = refl; locals = refl; balances = refl; units = omega arith; within = λ h. h }

@@ -8,8 +8,7 @@ use Rattle.rules.specs.declared.Value.the-variants.{Is, Failed}
 use Rattle.rules.specs.Syntax.{Expr, Simple, set, transfer, require, return}
 use Rattle.rules.specs.Values.{evaluate}
 use Rattle.rules.specs.Running.{Setting, going, after, orStop, view, value, charge, pay, perform, condition, guarded}
-use Rattle.machine.specs.declared.Flow.{Flow}
-use Rattle.machine.specs.Flows.{isGoing, flowOf, testedOf}
+use Rattle.machine.specs.Flows.{Flow, isGoing, flowOf, testedOf}
 use Rattle.machine.specs.Flows.{assignValue, payValues, answerValue, demandValue, testValue}
 use Rattle.machine.proofs.Flows.{flow-ends, flow-ends-test, untested}
 

@@ -1,10 +1,9 @@
 // The outcomes of starts and calls, and those tests of a call that need its fields and state record alone. Both forms of running
 // share them. For our own crates only: a caller of `first_refusal` has to see
 // that the accounts are those of an accepted file.
-use crate::Flow;
-use crate::How;
+use crate::Called;
+use crate::Progress;
 use crate::state::is_unfit;
-use crate::state::state_after;
 use crate::state::zero_state;
 use rules::Answer;
 use rules::Call;
@@ -15,17 +14,17 @@ use rules::Returned;
 use rules::State;
 ghost use mathlib.Core.Path.{_≡_};
 ghost use mathlib.Core.Bool.{false};
-ghost use mathlib.Core.List.{[]};
-ghost use Prim.Native.Nat.{_<_, _≤_};
+ghost use mathlib.Core.List.{List, []};
+ghost use Prim.Native.Nat.{ℕ, _<_, _≤_};
 ghost use lib.Dec.{ltb, leb};
 ghost use lib.ListN.{getD};
 ghost use Rattle.rules.specs.Basics.{firstOf};
 ghost use Rattle.rules.specs.Running.{Run};
 ghost use Rattle.rules.specs.Accepting.{refusal as refusalOf};
-ghost use Rattle.rules.specs.Calling.{callTests, outcome, refusedStart, refusedCall, endsIn, noCall};
+ghost use Rattle.rules.specs.Calling.{callTests, refusedStart, refusedCall, endsIn, noCall};
 ghost use Rattle.rules.specs.Calling.{started as startedOf, called as calledOf};
-ghost use Rattle.machine.specs.Flows.{flowOf};
-ghost use Rattle.machine.specs.Calls.{numbered};
+ghost use Rattle.machine.specs.Flows.{flowIn, flowOf};
+ghost use Rattle.machine.specs.Calls.{stateOf, outcomeIn, numbered};
 
 // A refusal that carries no place.
 pub fn refusal(number: u8) -> Refusal
@@ -54,41 +53,81 @@ pub fn refused_call(refusal: Refusal, units: u32, s: State) -> Outcome
     }
 }
 
-fn completed(returned: Returned, units: u32, s: State) -> Outcome
-    ensures { λ r. ⌜ r ≡ outcome (Answer.Completed returned units) s ⌝ }
+// A call's outcome, with the record that stands in these arrays.
+pub fn gathered(c: Called, variables: [u32; 16], balances: [u32; 8]) -> Outcome
+    ensures { λ r. ⌜ r ≡ outcomeIn variables balances c ⌝ }
 {
+    let answer = c.answer;
     Outcome {
-        answer: Answer::Completed(returned, units),
-        state: s,
+        answer,
+        state: State {
+            state: c.state,
+            variables,
+            balances,
+            own: c.own,
+        },
+    }
+}
+
+// A call that was refused before anything moved.
+pub fn unmoved(number: u8, state: u32, own: u32) -> Called
+    ensures { λ r. ⌜ ((vs bs : List ℕ) → outcomeIn vs bs r ≡ refusedCall (refusalOf number) 0 (stateOf state own vs bs)) ⌝ }
+{
+    Called {
+        answer: Answer::Refused(refusal(number), 0),
+        state,
+        own,
     }
 }
 
 // A start whose action ended so, in the state n.
-pub fn started(n: u32, f: Flow) -> Outcome
-    ensures { λ r. ⌜ ((x : Run (Unit {0})) → f ≡ flowOf x → r ≡ startedOf (endsIn n x)) ⌝ }
+pub fn started(n: u32, variables: [u32; 16], balances: [u32; 8], p: Progress) -> Outcome
+    ensures { λ r. ⌜ ((ls : List ℕ) (x : Run (Unit {0})) → flowIn variables ls balances p ≡ flowOf x → r ≡ startedOf (endsIn n x)) ⌝ }
 {
-    let how = f.how;
-    let m = f.machine;
-    let after = state_after(n, m);
-    match how {
-        How::Going => completed(Returned::NoValue, m.units, after),
-        How::Returned => completed(Returned::NoValue, m.units, after),
-        How::Stopped(_) => refused_start(refusal(27), m.units),
+    let m = p.numbers;
+    if 1 < p.code {
+        return refused_start(refusal(27), m.units);
+    }
+    Outcome {
+        answer: Answer::Completed(Returned::NoValue, m.units),
+        state: State {
+            state: n,
+            variables,
+            balances,
+            own: m.own,
+        },
     }
 }
 
-// A call from the record s whose action ended so, in the state n.
-pub fn called(s: State, n: u32, f: Flow) -> Outcome
-    ensures { λ r. ⌜ ((x : Run (Unit {0})) → f ≡ flowOf x → r ≡ calledOf s (endsIn n x)) ⌝ }
+// A call from the record s whose action ended so, in the state n. Where it was refused, the record of before is put back, coins
+// included.
+pub fn called(
+    s: State,
+    n: u32,
+    variables: &mut [u32; 16],
+    balances: &mut [u32; 8],
+    p: Progress,
+) -> Called
+    ensures { λ r. ⌜ ((ls : List ℕ) (x : Run (Unit {0})) → flowIn (now (variables .entry)) ls (now (balances .entry)) p ≡ flowOf x →
+        outcomeIn (now (variables .exit)) (now (balances .exit)) r ≡ calledOf s (endsIn n x)) ⌝ }
 {
-    let how = f.how;
-    let m = f.machine;
+    let m = p.numbers;
+    if 1 < p.code {
+        let v = s.variables;
+        let b = s.balances;
+        *variables = v;
+        *balances = b;
+        return Called {
+            answer: Answer::Refused(refusal(p.code - 2), m.units),
+            state: s.state,
+            own: s.own,
+        };
+    }
     let returned = m.returned;
-    let after = state_after(n, m);
-    match how {
-        How::Going => completed(returned, m.units, after),
-        How::Returned => completed(returned, m.units, after),
-        How::Stopped(number) => refused_call(refusal(number), m.units, s),
+    Called {
+        answer: Answer::Completed(returned, m.units),
+        state: n,
+        own: m.own,
     }
 }
 

@@ -1,181 +1,178 @@
 // What statements do to a machine. For our own crates only: their callers meet what is required here by what reading has accepted.
-use crate::Flow;
-use crate::How;
-use crate::Tested;
+// Where an operation does not touch an array, its contract holds for any.
+use crate::Decided;
+use crate::Numbers;
+use crate::Progress;
 use crate::values::is_true;
-use rules::Machine;
 use rules::Returned;
 use rules::Value;
 ghost use mathlib.Core.Path.{_≡_};
-ghost use Prim.Native.Nat.{_≤_};
-ghost use Rattle.rules.specs.Running.{skip, stop, charge as charged, assign as assigned, pay as paid, answer as answered};
-ghost use Rattle.machine.specs.Flows.{isGoing, flowOf, testedOf, Target, Solvent};
+ghost use mathlib.Core.List.{List, []};
+ghost use Prim.Native.Nat.{ℕ, _≤_};
+ghost use Rattle.rules.specs.Running.{going as goingWith, skip, stop, charge as charged, assign as assigned, pay as paid};
+ghost use Rattle.machine.specs.Flows.{machineOf, flowIn, testedIn, flowOf, testedOf, Target, Solvent};
 ghost use Rattle.machine.specs.Flows.{assignValue, payValues, answerValue, demandValue, testValue};
 
-pub fn is_going(how: How) -> bool
-    ensures { λ r. ⌜ r ≡ isGoing how ⌝ }
+fn going(n: Numbers) -> Progress
+    ensures { λ r. ⌜ ((vs ls bs : List ℕ) → flowIn vs ls bs r ≡ flowOf (skip (machineOf vs ls bs n))) ⌝ }
 {
-    match how {
-        How::Going => true,
-        How::Returned => false,
-        How::Stopped(_) => false,
+    Progress {
+        code: 0,
+        numbers: n,
     }
 }
 
-fn going(m: Machine) -> Flow
-    ensures { λ r. ⌜ r ≡ flowOf (skip m) ⌝ }
+fn stopped(n: Numbers, number: u8) -> Progress
+    requires { ⌜ number ≤ 27 ⌝ }
+    ensures { λ r. ⌜ ((vs ls bs : List ℕ) → flowIn vs ls bs r ≡ flowOf (stop number (machineOf vs ls bs n))) ⌝ }
 {
-    Flow {
-        how: How::Going,
-        machine: m,
+    Progress {
+        code: 2 + number,
+        numbers: n,
     }
 }
 
-fn stopped(m: Machine, number: u8) -> Flow
-    ensures { λ r. ⌜ r ≡ flowOf (stop number m) ⌝ }
+pub fn charge(n: Numbers, limit: u32) -> Progress
+    ensures { λ r. ⌜ ((vs ls bs : List ℕ) → flowIn vs ls bs r ≡ flowOf (charged limit (machineOf vs ls bs n))) ⌝ }
 {
-    Flow {
-        how: How::Stopped(number),
-        machine: m,
-    }
-}
-
-pub fn charge(m: Machine, limit: u32) -> Flow
-    ensures { λ r. ⌜ r ≡ flowOf (charged limit m) ⌝ }
-{
-    if m.units < limit {
-        let mut n = m;
-        n.units = m.units + 1;
-        going(n)
+    if n.units < limit {
+        let mut m = n;
+        m.units = n.units + 1;
+        going(m)
     } else {
-        stopped(m, 26)
+        stopped(n, 26)
     }
 }
 
-pub fn assign(m: Machine, target: usize, x: u32) -> Flow
+fn assign(variables: &mut [u32; 16], locals: &mut [u32; 8], target: usize, x: u32)
     requires { ⌜ Target target ⌝ }
-    ensures { λ r. ⌜ r ≡ flowOf (assigned target x m) ⌝ }
+    ensures { λ _. ⌜ ((bs : List ℕ) (n : Numbers) → goingWith tt (machineOf (now (variables .exit)) (now (locals .exit)) bs n)
+        ≡ assigned target x (machineOf (now (variables .entry)) (now (locals .entry)) bs n)) ⌝ }
 {
-    let mut n = m;
     if target < 256 {
-        n.variables[target] = x;
-        going(n)
+        variables[target] = x;
     } else {
         let i = target - 256;
-        n.locals[i] = x;
-        going(n)
+        locals[i] = x;
     }
 }
 
-pub fn pay(m: Machine, accounts: usize, account: u32, amount: u32) -> Flow
-    requires { ⌜ (accounts ≤ 8) × Solvent m ⌝ }
-    ensures { λ r. ⌜ r ≡ flowOf (paid accounts account amount m) ⌝ }
+fn pay(balances: &mut [u32; 8], n: Numbers, accounts: usize, account: u32, amount: u32) -> Progress
+    requires { ⌜ (accounts ≤ 8) × Solvent (machineOf [] [] (now balances) n) ⌝ }
+    ensures { λ r. ⌜ ((vs ls : List ℕ) → flowIn vs ls (now (balances .exit)) r
+        ≡ flowOf (paid accounts account amount (machineOf vs ls (now (balances .entry)) n))) ⌝ }
 {
     let k = account as usize;
     if accounts <= k {
-        return stopped(m, 25);
+        return stopped(n, 25);
     }
-    if m.own < amount {
-        return stopped(m, 25);
+    if n.own < amount {
+        return stopped(n, 25);
     }
-    let mut n = m;
-    n.balances[k] = m.balances[k] + amount;
-    n.own = m.own - amount;
-    going(n)
-}
-
-pub fn answer(m: Machine, x: u32) -> Flow
-    ensures { λ r. ⌜ r ≡ flowOf (answered x m) ⌝ }
-{
-    let variables = m.variables;
-    let locals = m.locals;
-    let balances = m.balances;
-    Flow {
-        how: How::Returned,
-        machine: Machine {
-            variables,
-            locals,
-            balances,
-            own: m.own,
-            units: m.units,
-            returned: Returned::Given(x),
-        },
-    }
+    balances[k] = balances[k] + amount;
+    let mut m = n;
+    m.own = n.own - amount;
+    going(m)
 }
 
 // What a set, a transfer and a return do with the values of their expressions; one that failed is refused.
-pub fn assign_value(m: Machine, target: usize, v: Value) -> Flow
+pub fn assign_value(
+    variables: &mut [u32; 16],
+    locals: &mut [u32; 8],
+    n: Numbers,
+    target: usize,
+    v: Value,
+) -> Progress
     requires { ⌜ Target target ⌝ }
-    ensures { λ r. ⌜ r ≡ flowOf (assignValue target v m) ⌝ }
+    ensures { λ r. ⌜ ((bs : List ℕ) → flowIn (now (variables .exit)) (now (locals .exit)) bs r
+        ≡ flowOf (assignValue target v (machineOf (now (variables .entry)) (now (locals .entry)) bs n))) ⌝ }
 {
     match v {
-        Value::Is(x) => assign(m, target, x),
-        Value::Failed => stopped(m, 25),
+        Value::Is(x) => {
+            assign(variables, locals, target, x);
+            going(n)
+        }
+        Value::Failed => stopped(n, 25),
     }
 }
 
-pub fn pay_values(m: Machine, accounts: usize, account: Value, amount: Value) -> Flow
-    requires { ⌜ (accounts ≤ 8) × Solvent m ⌝ }
-    ensures { λ r. ⌜ r ≡ flowOf (payValues accounts account amount m) ⌝ }
+pub fn pay_values(
+    balances: &mut [u32; 8],
+    n: Numbers,
+    accounts: usize,
+    account: Value,
+    amount: Value,
+) -> Progress
+    requires { ⌜ (accounts ≤ 8) × Solvent (machineOf [] [] (now balances) n) ⌝ }
+    ensures { λ r. ⌜ ((vs ls : List ℕ) → flowIn vs ls (now (balances .exit)) r
+        ≡ flowOf (payValues accounts account amount (machineOf vs ls (now (balances .entry)) n))) ⌝ }
 {
     let Value::Is(k) = account else {
-        return stopped(m, 25);
+        return stopped(n, 25);
     };
     let Value::Is(x) = amount else {
-        return stopped(m, 25);
+        return stopped(n, 25);
     };
-    pay(m, accounts, k, x)
+    pay(balances, n, accounts, k, x)
 }
 
-pub fn answer_value(m: Machine, v: Value) -> Flow
-    ensures { λ r. ⌜ r ≡ flowOf (answerValue v m) ⌝ }
+pub fn answer_value(n: Numbers, v: Value) -> Progress
+    ensures { λ r. ⌜ ((vs ls bs : List ℕ) → flowIn vs ls bs r ≡ flowOf (answerValue v (machineOf vs ls bs n))) ⌝ }
 {
     match v {
-        Value::Is(x) => answer(m, x),
-        Value::Failed => stopped(m, 25),
+        Value::Is(x) => Progress {
+            code: 1,
+            numbers: Numbers {
+                own: n.own,
+                units: n.units,
+                returned: Returned::Given(x),
+            },
+        },
+        Value::Failed => stopped(n, 25),
     }
 }
 
 // A value that has to be true: refused with one number where it failed, and with another where it is false.
-fn demand(m: Machine, failed: u8, untrue: u8, v: Value) -> Flow
-    ensures { λ r. ⌜ r ≡ flowOf (demandValue failed untrue v m) ⌝ }
+fn demand(n: Numbers, failed: u8, untrue: u8, v: Value) -> Progress
+    requires { ⌜ (failed ≤ 27) × (untrue ≤ 27) ⌝ }
+    ensures { λ r. ⌜ ((vs ls bs : List ℕ) → flowIn vs ls bs r ≡ flowOf (demandValue failed untrue v (machineOf vs ls bs n))) ⌝ }
 {
     match v {
         Value::Is(x) => if is_true(x) {
-            going(m)
+            going(n)
         } else {
-            stopped(m, untrue)
+            stopped(n, untrue)
         },
-        Value::Failed => stopped(m, failed),
+        Value::Failed => stopped(n, failed),
     }
 }
 
-pub fn require(m: Machine, v: Value) -> Flow
-    ensures { λ r. ⌜ r ≡ flowOf (demandValue 25 25 v m) ⌝ }
+pub fn require(n: Numbers, v: Value) -> Progress
+    ensures { λ r. ⌜ ((vs ls bs : List ℕ) → flowIn vs ls bs r ≡ flowOf (demandValue 25 25 v (machineOf vs ls bs n))) ⌝ }
 {
-    demand(m, 25, 25, v)
+    demand(n, 25, 25, v)
 }
 
-pub fn guard(m: Machine, v: Value) -> Flow
-    ensures { λ r. ⌜ r ≡ flowOf (demandValue 24 23 v m) ⌝ }
+pub fn guard(n: Numbers, v: Value) -> Progress
+    ensures { λ r. ⌜ ((vs ls bs : List ℕ) → flowIn vs ls bs r ≡ flowOf (demandValue 24 23 v (machineOf vs ls bs n))) ⌝ }
 {
-    demand(m, 24, 23, v)
+    demand(n, 24, 23, v)
 }
 
 // What an if, a while and a for make of the value of their condition.
-pub fn test(m: Machine, v: Value) -> Tested
-    ensures { λ r. ⌜ r ≡ testedOf (testValue v m) ⌝ }
+pub fn test(n: Numbers, v: Value) -> Decided
+    ensures { λ r. ⌜ ((vs ls bs : List ℕ) → testedIn vs ls bs r ≡ testedOf (testValue v (machineOf vs ls bs n))) ⌝ }
 {
     match v {
-        Value::Is(x) => Tested {
-            how: How::Going,
+        Value::Is(x) => Decided {
+            code: 0,
             holds: is_true(x),
-            machine: m,
+            numbers: n,
         },
-        Value::Failed => Tested {
-            how: How::Stopped(25),
+        Value::Failed => Decided {
+            code: 27,
             holds: false,
-            machine: m,
+            numbers: n,
         },
     }
 }

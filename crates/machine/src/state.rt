@@ -1,16 +1,19 @@
 // State records: their totals, whether they fit an agreement, and the machines that calls begin and end with. For our own crates
 // only: their callers meet what is required here by the tests of a call.
+use crate::Numbers;
 use rules::Call;
 use rules::Fields;
-use rules::Machine;
 use rules::Returned;
 use rules::State;
 ghost use mathlib.Core.Path.{_≡_};
-ghost use Prim.Native.Nat.{_^_, _<_, _≤_};
-ghost use lib.ListN.{drop, getD};
+ghost use mathlib.Core.List.{List};
+ghost use Prim.Native.Nat.{ℕ, _+_, _^_, _<_, _≤_};
+ghost use lib.ListN.{drop, getD, replicate};
 ghost use Rattle.rules.specs.Basics.{any, sum as sumOf, most32};
 ghost use Rattle.rules.specs.Values.{isTrue};
-ghost use Rattle.rules.specs.Calling.{total as totalOf, unfit, openingState, zeroState, entered as enteredOf, stateAfter};
+ghost use Rattle.rules.specs.Calling.{total as totalOf, unfit, openingState, zeroState, entered as enteredOf};
+ghost use Rattle.machine.specs.Flows.{machineOf};
+ghost use Rattle.machine.specs.Calls.{stateOf};
 
 fn wide(x: u32) -> u64
     ensures { λ r. ⌜ (r ≡ x) × (r < 2 ^ 32) ⌝ }
@@ -91,35 +94,17 @@ pub fn zero_state() -> State
 }
 
 // The machine that a call begins with: its coins have moved.
-pub fn entered(k: Call, s: State) -> Machine
-    requires { ⌜ (k .sender < 8) × (k .coins ≤ getD (s .balances) (k .sender) 0) × (totalOf s ≤ most32) ⌝ }
-    ensures { λ r. ⌜ r ≡ enteredOf k s ⌝ }
+pub fn entered(k: Call, own: u32, balances: &mut [u32; 8]) -> Numbers
+    requires { ⌜ (k .sender < 8) × (k .coins ≤ getD (now balances) (k .sender) 0) × (sumOf (now balances) + own ≤ most32) ⌝ }
+    ensures { λ r. ⌜ ((n : ℕ) (vs : List ℕ) → machineOf vs (replicate 8 0) (now (balances .exit)) r
+        ≡ enteredOf k (stateOf n own vs (now (balances .entry)))) ⌝ }
 {
     let i = k.sender as usize;
     let coins = k.coins;
-    let variables = s.variables;
-    let mut balances = s.balances;
     balances[i] = balances[i] - coins;
-    let own = s.own + coins;
-    Machine {
-        variables,
-        locals: [0; 8],
-        balances,
-        own,
+    Numbers {
+        own: own + coins,
         units: 0,
         returned: Returned::NoValue,
-    }
-}
-
-pub fn state_after(n: u32, m: Machine) -> State
-    ensures { λ r. ⌜ r ≡ stateAfter n m ⌝ }
-{
-    let variables = m.variables;
-    let balances = m.balances;
-    State {
-        state: n,
-        variables,
-        balances,
-        own: m.own,
     }
 }

@@ -4,6 +4,7 @@ ghost use mathlib.Core.Path.{_≡_};
 ghost use lib.Dec.{leb};
 ghost use Rattle.rules.specs.Basics.{most32};
 ghost use Rattle.rules.specs.Values.{truth as truthOf, isTrue, checked, apply as applied, negated, onValue, both as bothOf};
+ghost use Rattle.machine.specs.Codes.{valueOf};
 
 pub fn is_true(x: u32) -> bool
     ensures { λ r. ⌜ r ≡ isTrue x ⌝ }
@@ -59,23 +60,43 @@ pub fn apply(operator: usize, x: u32, y: u32) -> Value
     }
 }
 
-pub fn both(operator: usize, v: Value, w: Value) -> Value
-    ensures { λ r. ⌜ r ≡ bothOf (applied operator) v w ⌝ }
-{
-    let Value::Is(x) = v else {
-        return Value::Failed;
-    };
-    let Value::Is(y) = w else {
-        return Value::Failed;
-    };
-    apply(operator, x, y)
-}
-
-pub fn negation(v: Value) -> Value
-    ensures { λ r. ⌜ r ≡ onValue negated v ⌝ }
+// A value as one number: 4,294,967,296 and above where it failed.
+fn code(v: Value) -> u64
+    ensures { λ r. ⌜ valueOf r ≡ v ⌝ }
 {
     match v {
-        Value::Is(x) => truth(x == 0),
-        Value::Failed => Value::Failed,
+        Value::Is(x) => x as u64,
+        Value::Failed => 4_294_967_296,
     }
+}
+
+pub fn value(code: u64) -> Value
+    ensures { λ r. ⌜ r ≡ valueOf code ⌝ }
+{
+    if code <= 4_294_967_295 {
+        Value::Is(code as u32)
+    } else {
+        Value::Failed
+    }
+}
+
+pub fn both(operator: usize, v: u64, w: u64) -> u64
+    ensures { λ r. ⌜ valueOf r ≡ bothOf (applied operator) (valueOf v) (valueOf w) ⌝ }
+{
+    if 4_294_967_295 < v {
+        return 4_294_967_296;
+    }
+    if 4_294_967_295 < w {
+        return 4_294_967_296;
+    }
+    code(apply(operator, v as u32, w as u32))
+}
+
+pub fn negation(v: u64) -> u64
+    ensures { λ r. ⌜ valueOf r ≡ onValue negated (valueOf v) ⌝ }
+{
+    if 4_294_967_295 < v {
+        return 4_294_967_296;
+    }
+    if v == 0 { 1 } else { 0 }
 }

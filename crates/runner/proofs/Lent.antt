@@ -7,30 +7,29 @@ use mathlib.Core.List.{List, [], _∷_}
 use mathlib.Core.Option.{Option, none, some}
 use native.Mathlib.Omega.{arith}
 use lib.Dec.{eqb, ltb, leb}
-use lib.ListN.{length}
+use lib.ListN.{length, getD}
 use borrow.Author.Tests.{lt-ltb, le-ltb}
 use Rattle.rules.specs.declared.Call.{Call}
 use Rattle.rules.specs.declared.Fields.{Fields}
 use Rattle.rules.specs.declared.Machine.{Machine}
 use Rattle.rules.specs.declared.Outcome.{Outcome}
 use Rattle.rules.specs.declared.State.{State}
-use Rattle.rules.specs.Basics.{if_then_else_, firstOf, given, isNone}
+use Rattle.rules.specs.Basics.{if_then_else_, firstOf, given, isNone, sum, most32}
 use Rattle.rules.specs.Syntax.{Agreement}
 use Rattle.rules.specs.Expanding.{Step, expansion, table}
 use Rattle.rules.specs.Accepting.{good, fileOf, onFile, refusal, tooFew}
 use Rattle.rules.specs.Running.{Setting, Run, going, stopped}
-use Rattle.rules.specs.Calling.{End, ended, halted, leads, endsIn, openingState, noCall, entered, started, called, callTests, startSetting, startBy, callBy}
+use Rattle.rules.specs.Calling.{End, ended, halted, leads, endsIn, openingState, noCall, total, entered, started, called, callTests, startSetting, startBy, callBy}
 use Rattle.rules.specs.Calling.{refusedStart, refusedCall}
 use Rattle.rules.specs.Stepping.{beginsWith, settled, walkBy, entryOf, entryKnown, startSteps, callSteps, lentTests, startExpanded, callExpanded}
 use Rattle.forms.proofs.Decoding.{lent-steps, lent-pass, lent-call-pass}
 use Rattle.machine.specs.Flows.{flowOf}
-use Rattle.machine.specs.Calls.{Passed}
-use Rattle.machine.proofs.Calls.{sender-refused, lent-refused}
+use Rattle.machine.specs.Calls.{stateOf, Passed}
+use Rattle.machine.proofs.Calls.{sender-refused, lent-refused, Enters}
 use Rattle.access.specs.Trees.{AcceptedFile}
 use Rattle.access.proofs.Using.{same-accepted}
-use Rattle.walker.specs.declared.Reached.{Reached}
 use Rattle.walker.specs.Tables.{Expanded, Tabled, Listed, Entered}
-use Rattle.walker.specs.Runs.{reachedOf, Walkable, walkIn, walkByIn}
+use Rattle.walker.specs.Runs.{Reached, reachedOf, Walkable, walkIn, walkByIn}
 use Rattle.runner.specs.declared.Prepared.{Prepared}
 use Rattle.runner.specs.Tables.{Walks, Ready, startIn, callIn}
 use Rattle.runner.proofs.Runs.{no-and, call-elsewhere, call-run}
@@ -73,6 +72,18 @@ pub by-reached :
 unfolding reachedOf settled endsIn leads flowOf
 by-reached g c (ended n m) h i k = k (going tt m) (ap (λ (r : Reached). r .flow) h) ∙ ap (λ (z : ℕ). g (ended z m)) (i ∙ ap (λ (r : Reached). if eqb (r .node) (c .fields .states) then c .before else r .node) h)
 by-reached g c (halted j m) h i k = k (stopped j m) (ap (λ (r : Reached). r .flow) h)
+
+-- ---- what a run enters with
+
+-- lent arrays that are a record's: what `entered` asks of them, and the record
+pub enters-lent :
+    {s : State} {k : Call} {bs : List ℕ} → bs ≡ s .balances → Enters s k →
+    (k .sender < 8) × (k .coins ≤ getD bs (k .sender) 0) × (sum bs + s .own ≤ most32)
+unfolding total
+enters-lent h e = rw h (e .sender, e .coins, e .small)
+
+pub state-lent : {vs bs : List ℕ} (s : State) → vs ≡ s .variables → bs ≡ s .balances → stateOf (s .state) (s .own) vs bs ≡ s
+state-lent s i j = rw (i, j)
 
 -- ---- starting
 

@@ -52,12 +52,14 @@ standing {file} {at} x = let w = x .good (from at file) (from-drop at file) in (
 
 -- ---- starting
 
+pub start-full : {file : List ℕ} (a : AcceptedFile file) {f : Fields} {s : State} → f ≡ a .tree .fields → s ≡ openingState f → length (s .balances) ≡ 8
+unfolding openingState
+start-full {file} a e j = rw (j, e) (tree-good file (a .tree) (a .is) .tree .fields .opening-eight)
+
 pub start-enters : {file : List ℕ} (a : AcceptedFile file) {f : Fields} {k : Call} {s : State} → f ≡ a .tree .fields → k ≡ noCall → s ≡ openingState f → Enters s k
-unfolding noCall openingState
+unfolding noCall
 start-enters {file} a {f} {k} {s} e i j =
-    let g = tree-good file (a .tree) (a .is) in
-    let full : length (s .balances) ≡ 8 = rw (j, e) (g .tree .fields .opening-eight) in
-    enters s k full (rw i (omega arith)) (rw i (omega arith)) (rw (j, opening-total f, e) (g .opening-fits))
+    enters s k (start-full a e j) (rw i (omega arith)) (rw i (omega arith)) (rw (j, opening-total f, e) (tree-good file (a .tree) (a .is) .opening-fits))
 
 pub start-is :
     (a : Agreement) {f : Fields} {k : Call} {s : State} {m : Machine} → f ≡ a .fields → k ≡ noCall → s ≡ openingState f → m ≡ entered k s →

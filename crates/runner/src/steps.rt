@@ -2,12 +2,16 @@
 // looked up in its steps was found. For our own crates only: a caller has to see all of that, and can do it once for many calls.
 use crate::Prepared;
 use crate::accepted::frame_of;
+use machine::Called;
 use machine::outcomes::called;
 use machine::outcomes::first_refusal;
+use machine::outcomes::gathered;
+use machine::outcomes::is_unknown_sender;
 use machine::outcomes::no_call;
 use machine::outcomes::refusal;
 use machine::outcomes::refused_call;
 use machine::outcomes::started;
+use machine::outcomes::unmoved;
 use machine::state::entered;
 use machine::state::opening_state;
 use rules::Call;
@@ -20,8 +24,9 @@ use walker::walk::enter;
 use walker::walk::walk;
 ghost use mathlib.Core.Path.{_≡_};
 ghost use lib.Dec.{eqb};
+ghost use lib.ListN.{length};
 ghost use Rattle.rules.specs.Basics.{if_then_else_};
-ghost use Rattle.machine.specs.Calls.{Passed};
+ghost use Rattle.machine.specs.Calls.{stateOf, outcomeIn, Passed, Fits};
 ghost use Rattle.walker.specs.Tables.{Expanded};
 ghost use Rattle.runner.specs.Tables.{Walks, Ready, startIn, callIn};
 
@@ -37,13 +42,30 @@ pub fn start_prepared(file: &[u8], words: &[u32], nodes: &[u32; 1091], f: Fields
     ensures { λ r. ⌜ ((a : Expanded (now (file .entry)) (now (words .entry))) → r ≡ startIn (now (file .entry)) (a .tree)) ⌝ }
 {
     let k = no_call();
-    let m = entered(k, opening_state(f));
+    let s = opening_state(f);
+    let mut variables = s.variables;
+    let mut locals = [0u32; 8];
+    let mut balances = s.balances;
+    let n = entered(k, s.own, &mut balances);
     let start = f.start as u32;
     let frame = frame_of(f, start, k);
     let arguments = k.arguments;
     let states = f.states as u32;
-    let r = walk(file, words, nodes, states, states + 2, m, frame, &arguments);
-    started(settle(states, start, r.node), r.flow)
+    let r = walk(
+        file,
+        words,
+        nodes,
+        states,
+        states + 2,
+        &mut variables,
+        &mut locals,
+        &mut balances,
+        n,
+        frame,
+        &arguments,
+    );
+    let p = r.progress;
+    started(settle(states, start, r.node), variables, balances, p)
 }
 
 // Refusals 9, 20 and 21 come before the name is looked for.
@@ -64,10 +86,60 @@ pub fn call_prepared(
     if 0 < n {
         return refused_call(refusal(n), 0, s);
     }
-    call_passed(file, words, nodes, places, p, s, k)
+    let mut variables = s.variables;
+    let mut balances = s.balances;
+    let c = call_passed(
+        file,
+        words,
+        nodes,
+        places,
+        p,
+        s,
+        &mut variables,
+        &mut balances,
+        k,
+    );
+    gathered(c, variables, balances)
 }
 
-// Refusal 22, or the run from the fallback's entry, or the run from the guard's step.
+// A call on a record that is known to fit, as every record is that starting and calling have led to: it is not tested for refusal 20
+// anew. The record's arrays are lent; a refused call leaves them as they were.
+pub fn call_fitting(
+    file: &[u8],
+    words: &[u32],
+    nodes: &[u32; 1091],
+    places: &[u32; 1024],
+    p: Prepared,
+    state: u32,
+    own: u32,
+    variables: &mut [u32; 16],
+    balances: &mut [u32; 8],
+    k: Call,
+) -> Called
+    requires { ⌜ Ready (now file) (now words) (now nodes) (now places) p × Fits (p .fields) (stateOf state own (now variables) (now balances)) ⌝ }
+    ensures { λ r. ⌜ ((a : Expanded (now (file .entry)) (now (words .entry))) → outcomeIn (now (variables .exit)) (now (balances .exit)) r
+        ≡ callIn (now (file .entry)) (a .tree) (stateOf state own (now (variables .entry)) (now (balances .entry))) k) ⌝ }
+{
+    let f = p.fields;
+    if is_unknown_sender(f, k) {
+        return unmoved(9, state, own);
+    }
+    let i = k.sender as usize;
+    if balances[i] < k.coins {
+        return unmoved(21, state, own);
+    }
+    let v = *variables;
+    let b = *balances;
+    let s = State {
+        state,
+        variables: v,
+        balances: b,
+        own,
+    };
+    call_passed(file, words, nodes, places, p, s, variables, balances, k)
+}
+
+// Refusal 22, or the run from the fallback's entry, or the run from the guard's step. The lent arrays are those of the record.
 fn call_passed(
     file: &[u8],
     words: &[u32],
@@ -75,25 +147,58 @@ fn call_passed(
     places: &[u32; 1024],
     p: Prepared,
     s: State,
+    variables: &mut [u32; 16],
+    balances: &mut [u32; 8],
     k: Call,
-) -> Outcome
-    requires { ⌜ Ready (now file) (now words) (now nodes) (now places) p × Passed (p .fields) s k ⌝ }
-    ensures { λ r. ⌜ ((a : Expanded (now (file .entry)) (now (words .entry))) → r ≡ callIn (now (file .entry)) (a .tree) s k) ⌝ }
+) -> Called
+    requires { ⌜ Ready (now file) (now words) (now nodes) (now places) p × Passed (p .fields) s k
+        × (length (s .balances) ≡ 8) × (now variables ≡ s .variables) × (now balances ≡ s .balances) ⌝ }
+    ensures { λ r. ⌜ ((a : Expanded (now (file .entry)) (now (words .entry))) → outcomeIn (now (variables .exit)) (now (balances .exit)) r
+        ≡ callIn (now (file .entry)) (a .tree) s k) ⌝ }
 {
     let f = p.fields;
-    let m = entered(k, s);
     let frame = frame_of(f, s.state, k);
     let arguments = k.arguments;
     let states = f.states as u32;
     match find_entry(words, places, p.entries, k.name, s.state) {
-        Entry::Elsewhere => refused_call(refusal(22), 0, s),
+        Entry::Elsewhere => unmoved(22, s.state, s.own),
         Entry::Unknown => {
-            let r = walk(file, words, nodes, states, states + 1, m, frame, &arguments);
-            called(s, settle(states, s.state, r.node), r.flow)
+            let n = entered(k, s.own, balances);
+            let mut locals = [0u32; 8];
+            let r = walk(
+                file,
+                words,
+                nodes,
+                states,
+                states + 1,
+                variables,
+                &mut locals,
+                balances,
+                n,
+                frame,
+                &arguments,
+            );
+            let q = r.progress;
+            called(s, settle(states, s.state, r.node), variables, balances, q)
         }
         Entry::At(i) => {
-            let r = enter(file, words, nodes, states, i, m, frame, &arguments);
-            called(s, settle(states, s.state, r.node), r.flow)
+            let n = entered(k, s.own, balances);
+            let mut locals = [0u32; 8];
+            let r = enter(
+                file,
+                words,
+                nodes,
+                states,
+                i,
+                variables,
+                &mut locals,
+                balances,
+                n,
+                frame,
+                &arguments,
+            );
+            let q = r.progress;
+            called(s, settle(states, s.state, r.node), variables, balances, q)
         }
     }
 }

@@ -1,4 +1,4 @@
--- What a verdict answers, by its tests; and words that were written.
+-- What a verdict answers, by its tests; what its start leads to; and words that were written.
 -- Assumes nothing.
 use Prim.Native.Nat.{ℕ, zero, suc, _*_, _≤_, _<_}
 use mathlib.Core.Path.{_≡_, refl, sym, ap, subst, _∙_}
@@ -9,6 +9,7 @@ use native.Mathlib.Omega.{arith}
 use lib.Dec.{eqb}
 use lib.ListN.{length, getElem?}
 use borrow.Author.Tests.{lt-ltb, le-ltb, eq-eqb}
+use Rattle.rules.specs.declared.Outcome.{Outcome}
 use Rattle.rules.specs.declared.Verdict.the-variants.{Refused}
 use Rattle.rules.specs.Basics.{firstOf, given}
 use Rattle.rules.specs.Syntax.{Rule, Agreement}
@@ -17,6 +18,9 @@ use Rattle.rules.specs.Accepting.{refusal, onFile, lent, tooFew, written}
 use Rattle.rules.specs.Calling.{startTree}
 use Rattle.rules.specs.Stepping.{beginsWith}
 use Rattle.rules.specs.Judging.{isCompleted, judged, judgedOf, ruling, refusedVerdict, verdictTests, judge, verdict}
+use Rattle.totals.proofs.Trees.{tree-good}
+use Rattle.totals.proofs.Fitting.{fit-not-unfit, start-fit}
+use Rattle.machine.specs.Calls.{Fits}
 use Rattle.access.specs.Trees.{AcceptedFile}
 use Rattle.walker.specs.Tables.{Expanded}
 
@@ -47,6 +51,14 @@ module _ {file : List ℕ} (a : AcceptedFile file) (words : List ℕ) (i : ℕ) 
       pub was-judged : isCompleted (startTree (a .tree) .answer) ≡ true → lent (judgedOf (ruling (a .tree) x)) (written (a .tree) words) ≡ verdict file i words
       unfolding judge verdictTests tooFew firstOf given
       was-judged e = rw (le-ltb _ _ enough, e) at rule-judged
+
+-- the record that a completed start leads to
+pub start-fits : {file : List ℕ} (a : AcceptedFile file) {o : Outcome} → o ≡ startTree (a .tree) → isCompleted (o .answer) ≡ true → Fits (a .tree .fields) (o .state)
+start-fits {file} a {o} e =
+    rw e
+    (λ c.
+    let h = start-fit (a .tree) (tree-good file (a .tree) (a .is) .tree) c in
+    record { sixteen = h .sixteen; eight = h .eight; fits = fit-not-unfit _ _ h })
 
 begins-with : (xs ys : List ℕ) → beginsWith (xs ++ ys) xs ≡ true
 unfolding beginsWith

@@ -1,51 +1,69 @@
--- The list that the code holds, and the calls that it lays down.
+-- The rows that a verdict shows, and the calls that the code lays down.
 -- Assumes nothing.
 use Prim.Native.Nat.{ℕ, zero, suc, _+_, _-_, _*_, _<_, _≤_}
 use mathlib.Core.Path.{_≡_, refl, sym, ap, subst, _∙_}
-use mathlib.Core.List.{List, [], _∷_, _++_}
+use mathlib.Core.List.{List, [], _∷_, _++_, append-assoc}
 use native.Mathlib.Decide.{decLt}
 use native.Mathlib.Numerals.{towards-suc}
 use native.Mathlib.Omega.{arith}
-use lib.ListN.{length, getD, set, replicate, length-append, length-set}
+use lib.ListN.{length, getD, set, replicate, length-append, length-set, length-replicate, replicate-append-replicate}
 use lib.Seq.{set-at, append-snoc, sets, getD-set-same, getD-set-other}
 use Rattle.rules.specs.declared.Call.{Call}
 use Rattle.rules.specs.declared.Judged.{Judged}
 use Rattle.rules.specs.declared.Verdict.the-variants.{Broken}
 use Rattle.rules.specs.Basics.{padded}
 use Rattle.rules.specs.Calling.{noCall}
-use Rattle.rules.specs.Judging.{broken, judged, judgedOf}
+use Rattle.rules.specs.Judging.{Ruling, broken, held, spent, judged, judgedOf}
 use Rattle.access.specs.declared.Layout.{Layout}
 use Rattle.access.specs.Places.{Laid}
 use Rattle.access.proofs.Using.{counts, tree-bounds}
-use Rattle.searcher.specs.declared.Listed.{Listed}
-use Rattle.searcher.specs.Searching.{Shows, laidDown, LaidDown}
+use Rattle.searcher.specs.Searching.{continued, LaidDown}
 
--- ---- one row more
+-- ---- the rows that a verdict shows: zeros, until each is put in
 
-padded-more : (l : List ℕ) (v : ℕ) → length l < 8 → set (padded 8 l) (length l) v ≡ padded 8 (l ++ (v ∷ []))
+zeros-padded : (n : ℕ) → n ≤ 8 → padded 8 [] ≡ padded 8 (replicate n 0)
 unfolding padded
-padded-more l v h =
-    let z : 8 - length l ≡ suc (8 - suc (length l)) = omega arith in
-    let n : length (l ++ (v ∷ [])) ≡ suc (length l) = length-append l (v ∷ []) ∙ omega arith in
-    let w = 8 - suc (length l) in
-    rw (z, n) (set-at l 0 (replicate w 0) v (length l) refl ∙ sym (append-snoc l v (replicate w 0)))
+zeros-padded n h =
+    let z : 8 ≡ n + (8 - n) = omega arith in
+    rw length-replicate (ap (λ (k : ℕ). replicate k 0) z ∙ sym (replicate-append-replicate n (8 - n) 0))
 
-pub shows-more : (list : Listed) (row : ℕ) (l : List ℕ) → list .length < 8 → Shows list l
-    → Shows (record { rows = set (list .rows) (list .length) row; length = list .length + 1 }) (l ++ (row ∷ []))
-shows-more list row l h s =
-    record {
-      rows = rw (s .rows, s .length) (padded-more l row (rw (s .length) at h));
-      length = omega (arith, s .length, length-append l (row ∷ []));
-    }
-
-pub shows-none : Shows (record { rows = replicate 8 0; length = 0 }) []
-unfolding padded
-shows-none = record { rows = refl; length = refl }
-
--- a broken rule shows the list
-pub shown : (list : Listed) (l : List ℕ) (n : ℕ) → Shows list l → _≡_ {A = Judged} (record { verdict = Broken n (list .length); rows = list .rows }) (judgedOf (broken n l))
+pub zeros-shown : (m n : ℕ) → n ≤ 8 → judged (Broken m n) [] ≡ judgedOf (broken m (replicate n 0))
 unfolding judgedOf judged
-shown list l n s = rw (s .rows, s .length)
+zeros-shown m n h = rw (length-replicate, zeros-padded n h)
+
+set-padded : (p : List ℕ) (x v : ℕ) (k : List ℕ) → set (padded 8 (p ++ (x ∷ k))) (length p) v ≡ padded 8 (p ++ (v ∷ k))
+unfolding padded
+set-padded p x v k = simp (length-append, append-assoc) (set-at p x _ v (length p) refl)
+
+module _ (at row : ℕ) where
+  zero-last : (k : List ℕ) → replicate (at + 1) 0 ++ k ≡ replicate at 0 ++ (0 ∷ k)
+  zero-last k = rw (← replicate-append-replicate {A = ℕ} at 1 0) (append-snoc (replicate at 0) 0 k)
+
+  row-put : (k : List ℕ) → set (padded 8 (replicate (at + 1) 0 ++ k)) at row ≡ padded 8 (replicate at 0 ++ (row ∷ []) ++ k)
+  row-put k =
+      let p : List ℕ = replicate at 0 in
+      rw (zero-last k, append-snoc p row k)
+      (subst (λ (i : ℕ). set (padded 8 (p ++ (0 ∷ k))) i row ≡ padded 8 (p ++ (row ∷ k))) (length-replicate at 0) (set-padded p 0 row k))
+
+  same-length : (k : List ℕ) → length (replicate (at + 1) 0 ++ k) ≡ length (replicate at 0 ++ (row ∷ []) ++ k)
+  same-length k = rw (zero-last k, append-snoc (replicate at 0) row k, length-append, length-append)
+
+  module _ (n : ℕ) (f : Judged) where
+    -- a broken list's row is put in
+    pub row-shown : (v : Ruling) → f ≡ judgedOf (continued n (replicate (at + 1) 0) v) → {i j : ℕ} → f .verdict ≡ Broken i j
+        → record { verdict = f .verdict; rows = set (f .rows) at row } ≡ judgedOf (continued n (replicate at 0 ++ (row ∷ [])) v)
+    unfolding continued judgedOf judged
+    row-shown (broken m k) e h = rw (e, row-put k, same-length k)
+    row-shown (held m) e h = absurd (let z : _≡_ {A = ℕ} 0 1 = cc in omega arith)
+    row-shown (spent m) e h = absurd (let z : _≡_ {A = ℕ} 0 1 = cc in omega arith)
+
+    -- no other verdict depends on the rows
+    pub row-unshown : (v : Ruling) → f ≡ judgedOf (continued n (replicate (at + 1) 0) v) → ((i j : ℕ) → f .verdict ≡ Broken i j → ⊥)
+        → f ≡ judgedOf (continued n (replicate at 0 ++ (row ∷ [])) v)
+    unfolding continued judgedOf judged
+    row-unshown (broken m k) e h = absurd (h _ _ (ap (λ (f : Judged). f .verdict) e))
+    row-unshown (held m) e h = e
+    row-unshown (spent m) e h = e
 
 -- ---- calls laid down, seven numbers each
 

@@ -6,17 +6,18 @@ use mathlib.Core.List.{List, [], _∷_, _++_}
 use lib.ListN.{getD}
 use lib.ListN
 use Rattle.rules.specs.declared.Call.{Call}
-use Rattle.rules.specs.Basics.{padded}
+use Rattle.rules.specs.declared.State.{State}
 use Rattle.rules.specs.Syntax.{Rule, Agreement}
 use Rattle.rules.specs.Calling.{noCall, callTree, callsFrom}
 use Rattle.rules.specs.Judging.{eventsIn, rowsAt, Ruling, broken, held, spent}
+use Rattle.machine.specs.Calls.{stateOf}
 use Rattle.access.specs.Trees.{AcceptedFile}
 use Rattle.runner.specs.Tables.{Ready}
 use Rattle.rules.specs.Expanding.{expansion}
 use Rattle.walker.specs.Tables.{Expanded}
-use Rattle.searcher.specs.declared.Listed.{Listed}
 use Rattle.searcher.specs.declared.Plan.{Plan}
-use Rattle.searcher.specs.declared.Run.{Run}
+use Rattle.searcher.specs.declared.Position.{Position}
+use Rattle.searcher.specs.declared.Status.{Status}
 use Rattle.searcher.specs.Standing.{Holds, breaksAfter}
 
 -- a ruling on lists that come after n others, each behind the rows l
@@ -25,19 +26,17 @@ continued n l (broken m k) = broken (n + m) (l ++ k)
 continued n l (held m) = held (n + m)
 continued n l (spent m) = spent (n + m)
 
+-- where a search stands after some calls: the state record and how the rule stands; and as the code has it, with the arrays lent
+pub record Run : Type 0 where
+  pub state : State
+  pub status : Status
+
+abbrev pub runOf : Position → (variables balances : List ℕ) → Run
+runOf p vs bs = record { state = stateOf (p .state) (p .own) vs bs; status = p .status }
+
 -- whether a rule is broken by the end of the rows at these positions, called one after another, from a run so far
 unfoldable pub breaksFrom : Agreement → Rule → Run → List ℕ → Bool
 breaksFrom a rule run l = breaksAfter rule (run .status) (eventsIn (rowsAt a l) (callsFrom (callTree a) (run .state) (rowsAt a l)))
-
--- the list of rows that the code holds
-pub record Shows (list : Listed) (l : List ℕ) : Type 0 where
-  pub rows : list .rows ≡ padded 8 l
-  pub length : list .length ≡ ListN.length l
-
--- a list with one row more
-pub record Longer (list : Listed) (row : ℕ) (next : Listed) : Type 0 where
-  pub length : next .length ≡ list .length + 1
-  pub shows : (l : List ℕ) → Shows list l → Shows next (l ++ (row ∷ []))
 
 -- the i-th of calls that are laid down as seven numbers each
 abbrev pub laidDown : (calls : List ℕ) (i : ℕ) → Call

@@ -1,8 +1,6 @@
 // Judging a rule of an accepted file. For our own crates only: a caller has to see that the file was prepared, by which layout,
 // and that there is an i-th rule.
-use crate::Listed;
 use crate::Plan;
-use crate::Run;
 use crate::entries::judge_at;
 use crate::entries::lay_down_rows;
 use crate::search::search;
@@ -18,6 +16,7 @@ ghost use lib.ListN.{getElem?};
 ghost use Rattle.rules.specs.Syntax.{Rule};
 ghost use Rattle.rules.specs.Calling.{startTree};
 ghost use Rattle.rules.specs.Judging.{judgedOf, ruling};
+ghost use Rattle.machine.specs.Calls.{Fits};
 ghost use Rattle.access.specs.Trees.{AcceptedFile};
 ghost use Rattle.access.specs.Places.{Laid};
 ghost use Rattle.runner.specs.Tables.{Ready};
@@ -33,7 +32,7 @@ pub fn judge_accepted(
     i: usize,
     fresh: State,
 ) -> Judged
-    requires { ⌜ Ready (now file) (now words) (now nodes) (now entries) p × Laid (now file) l × (i < l .rules .count) ⌝ }
+    requires { ⌜ Ready (now file) (now words) (now nodes) (now entries) p × Laid (now file) l × (i < l .rules .count) × Fits (p .fields) fresh ⌝ }
     ensures { λ r. ⌜ ((a : AcceptedFile (now (file .entry))) (x : Rule) →
         getElem? (a .tree .rules) i ≡ some x → fresh ≡ startTree (a .tree) .state → r ≡ judgedOf (ruling (a .tree) x)) ⌝ }
 {
@@ -46,15 +45,16 @@ pub fn judge_accepted(
         count: l.rows.count as u8,
         bound: p.fields.bound,
     };
-    let list = Listed {
-        rows: [0u8; 8],
-        length: 0,
-    };
-    let run = Run {
-        list,
-        state: fresh,
-        status,
-    };
     let depth = p.fields.depth as usize;
-    search(file, words, nodes, entries, &calls, plan, run, depth)
+    search(
+        file,
+        words,
+        nodes,
+        entries,
+        &calls,
+        plan,
+        fresh,
+        status,
+        depth,
+    )
 }

@@ -6,7 +6,6 @@ pub mod search;
 pub mod standing;
 pub mod verdicts;
 
-use rules::State;
 use runner::Prepared;
 
 // A rule: its type, its p and q, and for type 1 where its expression begins.
@@ -23,16 +22,11 @@ pub struct Status {
     pub seen: bool,
 }
 
-// A list of call rows: the positions, then zeros.
-pub struct Listed {
-    pub rows: [u8; 8],
-    pub length: u8,
-}
-
-// A run of a list: the rows called so far, the state that they led to, and how the rule stands.
-pub struct Run {
-    pub list: Listed,
-    pub state: State,
+// Where a search stands after some calls: the numbers of the state record that they led to, whose arrays are lent, and how the rule
+// stands.
+pub struct Position {
+    pub state: u32,
+    pub own: u32,
     pub status: Status,
 }
 

@@ -1,20 +1,23 @@
 // The search over lists of call rows. For our own crates only: a caller has to see what it goes by.
-use crate::Listed;
 use crate::Plan;
-use crate::Run;
+use crate::Position;
+use crate::Status;
 use crate::entries::call_at;
 use crate::standing::after;
 use rules::Answer;
 use rules::Judged;
+use rules::State;
 use rules::Verdict;
-use runner::steps::call_prepared;
+use runner::steps::call_fitting;
 ghost use mathlib.Core.Path.{_≡_};
 ghost use mathlib.Core.Bool.{Bool};
 ghost use mathlib.Core.List.{List, [], _∷_, _++_};
 ghost use Prim.Native.Nat.{ℕ, _+_, _-_, _<_, _≤_};
+ghost use lib.ListN.{replicate};
 ghost use Rattle.rules.specs.Lists.{listsOf, listsTo};
-ghost use Rattle.rules.specs.Judging.{isCompleted, ruledOn, judged, judgedOf};
-ghost use Rattle.searcher.specs.Searching.{continued, Shows, Longer, Planned, breaksIn};
+ghost use Rattle.rules.specs.Judging.{Ruling, isCompleted, ruledOn, judged, judgedOf};
+ghost use Rattle.machine.specs.Calls.{Fits};
+ghost use Rattle.searcher.specs.Searching.{continued, Planned, runOf, breaksIn};
 
 // A verdict that shows no list.
 pub fn unshown(verdict: Verdict) -> Judged
@@ -26,37 +29,37 @@ pub fn unshown(verdict: Verdict) -> Judged
     }
 }
 
-// One row more.
-fn with_row(list: Listed, row: u8) -> Listed
-    requires { ⌜ list .length < 8 ⌝ }
-    ensures { λ r. ⌜ Longer list row r ⌝ }
-{
-    let at = list.length as usize;
-    let mut rows = list.rows;
-    rows[at] = row;
-    Listed {
-        rows,
-        length: list.length + 1,
-    }
-}
-
-// The end of a list. The bound is tested before the list counts as tried.
-fn ended(run: Run, tried: u32, bound: u32) -> Judged
-    ensures { λ r. ⌜ ((p : List ℕ → Bool) (l : List ℕ) → run .status .broken ≡ p [] → Shows (run .list) l →
-        r ≡ judgedOf (continued tried l (ruledOn (bound - tried) p ([] ∷ [])))) ⌝ }
+// The end of a list of this length. The bound is tested before the list counts as tried.
+fn ended(broken: bool, length: u8, tried: u32, bound: u32) -> Judged
+    requires { ⌜ length ≤ 8 ⌝ }
+    ensures { λ r. ⌜ ((p : List ℕ → Bool) → broken ≡ p [] →
+        r ≡ judgedOf (continued tried (replicate length 0) (ruledOn (bound - tried) p ([] ∷ [])))) ⌝ }
 {
     if tried >= bound {
         return unshown(Verdict::Spent(tried));
     }
-    if run.status.broken {
-        let list = run.list;
-        let rows = list.rows;
-        return Judged {
-            verdict: Verdict::Broken(tried + 1, list.length),
-            rows,
-        };
+    if broken {
+        return unshown(Verdict::Broken(tried + 1, length));
     }
     unshown(Verdict::Held(tried + 1))
+}
+
+// The row at a position of the list that a verdict shows, where it had a zero.
+fn with_row(f: Judged, at: u8, row: u8) -> Judged
+    requires { ⌜ at < 8 ⌝ }
+    ensures { λ r. ⌜ ((n : ℕ) (v : Ruling) → f ≡ judgedOf (continued n (replicate (at + 1) 0) v) →
+        r ≡ judgedOf (continued n (replicate at 0 ++ (row ∷ [])) v)) ⌝ }
+{
+    let verdict = f.verdict;
+    match verdict {
+        Verdict::Broken(_, _) => {
+            let i = at as usize;
+            let mut rows = f.rows;
+            rows[i] = row;
+            Judged { verdict, rows }
+        }
+        _ => f,
+    }
 }
 
 pub fn is_completed(answer: Answer) -> bool
@@ -68,7 +71,7 @@ pub fn is_completed(answer: Answer) -> bool
     }
 }
 
-// The run after the call of one row more. A refused call leaves how the rule stands.
+// The position after the call of one row more. A refused call leaves how the rule stands.
 fn called(
     file: &[u8],
     words: &[u32],
@@ -76,36 +79,51 @@ fn called(
     entries: &[u32; 1024],
     calls: &[u32; 112],
     plan: Plan,
-    run: Run,
+    position: Position,
+    variables: &mut [u32; 16],
+    balances: &mut [u32; 8],
     row: u8,
-) -> Run
-    requires { ⌜ Planned (now file) (now words) (now nodes) (now entries) (now calls) plan × (row < plan .count) × (run .list .length < 8) ⌝ }
-    ensures { λ r. ⌜ Longer (run .list) row (r .list) × ((g : Planned (now (file .entry)) (now (words .entry)) (now (nodes .entry)) (now (entries .entry)) (now (calls .entry)) plan)
-        (l : List ℕ) → breaksIn g r l ≡ breaksIn g run (row ∷ l)) ⌝ }
+) -> Position
+    requires { ⌜ Planned (now file) (now words) (now nodes) (now entries) (now calls) plan × (row < plan .count)
+        × Fits (plan .prepared .fields) (runOf position (now variables) (now balances) .state) ⌝ }
+    ensures { λ r. ⌜ Fits (plan .prepared .fields) (runOf r (now (variables .exit)) (now (balances .exit)) .state) ⌝ }
+    ensures { λ r. ⌜ ((g : Planned (now (file .entry)) (now (words .entry)) (now (nodes .entry)) (now (entries .entry)) (now (calls .entry)) plan) (l : List ℕ) →
+        breaksIn g (runOf r (now (variables .exit)) (now (balances .exit))) l
+        ≡ breaksIn g (runOf position (now (variables .entry)) (now (balances .entry))) (row ∷ l)) ⌝ }
 {
     let k = call_at(calls, row as usize);
-    let list = with_row(run.list, row);
-    let before = run.state;
-    let outcome = call_prepared(file, words, nodes, entries, plan.prepared, before, k);
-    let answer = outcome.answer;
-    let state = outcome.state;
-    let status = run.status;
+    let p = plan.prepared;
+    let c = call_fitting(
+        file,
+        words,
+        nodes,
+        entries,
+        p,
+        position.state,
+        position.own,
+        variables,
+        balances,
+        k,
+    );
+    let answer = c.answer;
+    let status = position.status;
     if is_completed(answer) {
-        let status = after(file, plan.judge, status, k.name, state);
-        return Run {
-            list,
-            state,
+        let status = after(file, plan.judge, status, k.name, variables, c.own, c.state);
+        return Position {
+            state: c.state,
+            own: c.own,
             status,
         };
     }
-    Run {
-        list,
-        state,
+    Position {
+        state: c.state,
+        own: c.own,
         status,
     }
 }
 
-// Tries every list that begins with the rows of this run and has `left` more, after `tried` others.
+// Tries every list that begins with the `at` rows that led to this position and has `left` more, after `tried` others. Where it
+// shows a list, those rows are zeros.
 fn extend(
     file: &[u8],
     words: &[u32],
@@ -113,26 +131,57 @@ fn extend(
     entries: &[u32; 1024],
     calls: &[u32; 112],
     plan: Plan,
-    run: Run,
+    position: Position,
+    variables: &[u32; 16],
+    balances: &[u32; 8],
+    at: u8,
     left: usize,
     tried: u32,
 ) -> Judged
-    requires { ⌜ Planned (now file) (now words) (now nodes) (now entries) (now calls) plan × (run .list .length + left ≤ 8) ⌝ }
-    ensures { λ r. ⌜ ((g : Planned (now (file .entry)) (now (words .entry)) (now (nodes .entry)) (now (entries .entry)) (now (calls .entry)) plan)
-        (l : List ℕ) → Shows (run .list) l →
-        r ≡ judgedOf (continued tried l (ruledOn (plan .bound - tried) (breaksIn g run) (listsOf (plan .count) left)))) ⌝ }
+    requires { ⌜ Planned (now file) (now words) (now nodes) (now entries) (now calls) plan
+        × Fits (plan .prepared .fields) (runOf position (now variables) (now balances) .state) × (at + left ≤ 8) ⌝ }
+    ensures { λ r. ⌜ ((g : Planned (now (file .entry)) (now (words .entry)) (now (nodes .entry)) (now (entries .entry)) (now (calls .entry)) plan) →
+        r ≡ judgedOf (continued tried (replicate at 0) (ruledOn (plan .bound - tried)
+        (breaksIn g (runOf position (now (variables .entry)) (now (balances .entry)))) (listsOf (plan .count) left)))) ⌝ }
 {
     if left == 0 {
-        return ended(run, tried, plan.bound);
+        let status = position.status;
+        return ended(status.broken, at, tried, plan.bound);
     }
     let mut n = tried;
     let mut row: u8 = 0;
     while row < plan.count {
-        let next = called(file, words, nodes, entries, calls, plan, run, row);
-        let f = extend(file, words, nodes, entries, calls, plan, next, left - 1, n);
+        let mut v = *variables;
+        let mut b = *balances;
+        let next = called(
+            file,
+            words,
+            nodes,
+            entries,
+            calls,
+            plan,
+            position,
+            &mut v,
+            &mut b,
+            row,
+        );
+        let f = extend(
+            file,
+            words,
+            nodes,
+            entries,
+            calls,
+            plan,
+            next,
+            &v,
+            &b,
+            at + 1,
+            left - 1,
+            n,
+        );
         let verdict = f.verdict;
         let Verdict::Held(m) = verdict else {
-            return f;
+            return with_row(f, at, row);
         };
         n = m;
         row += 1;
@@ -140,7 +189,7 @@ fn extend(
     unshown(Verdict::Held(n))
 }
 
-// Tries the lists by length, up to the depth, from a run that has called no row.
+// Tries the lists by length, up to the depth, from the state that the start led to.
 pub fn search(
     file: &[u8],
     words: &[u32],
@@ -148,17 +197,38 @@ pub fn search(
     entries: &[u32; 1024],
     calls: &[u32; 112],
     plan: Plan,
-    run: Run,
+    fresh: State,
+    status: Status,
     depth: usize,
 ) -> Judged
-    requires { ⌜ Planned (now file) (now words) (now nodes) (now entries) (now calls) plan × Shows (run .list) [] × (depth ≤ 8) ⌝ }
-    ensures { λ r. ⌜ ((g : Planned (now (file .entry)) (now (words .entry)) (now (nodes .entry)) (now (entries .entry)) (now (calls .entry)) plan)
-        → r ≡ judgedOf (ruledOn (plan .bound) (breaksIn g run) (listsTo (plan .count) depth))) ⌝ }
+    requires { ⌜ Planned (now file) (now words) (now nodes) (now entries) (now calls) plan × Fits (plan .prepared .fields) fresh × (depth ≤ 8) ⌝ }
+    ensures { λ r. ⌜ ((g : Planned (now (file .entry)) (now (words .entry)) (now (nodes .entry)) (now (entries .entry)) (now (calls .entry)) plan) →
+        r ≡ judgedOf (ruledOn (plan .bound) (breaksIn g (record { state = fresh; status = status })) (listsTo (plan .count) depth))) ⌝ }
 {
+    let variables = fresh.variables;
+    let balances = fresh.balances;
+    let position = Position {
+        state: fresh.state,
+        own: fresh.own,
+        status,
+    };
     let mut n: u32 = 0;
     let mut length = 0;
     while length <= depth {
-        let f = extend(file, words, nodes, entries, calls, plan, run, length, n);
+        let f = extend(
+            file,
+            words,
+            nodes,
+            entries,
+            calls,
+            plan,
+            position,
+            &variables,
+            &balances,
+            0,
+            length,
+            n,
+        );
         let verdict = f.verdict;
         let Verdict::Held(m) = verdict else {
             return f;

@@ -24,6 +24,7 @@ ghost use Rattle.rules.specs.Syntax.{Rule};
 ghost use Rattle.rules.specs.Accepting.{lent};
 ghost use Rattle.rules.specs.Calling.{startTree};
 ghost use Rattle.rules.specs.Judging.{judgedOf, ruling, verdict as verdictOf};
+ghost use Rattle.machine.specs.Calls.{Fits};
 ghost use Rattle.access.specs.Trees.{AcceptedFile};
 ghost use Rattle.access.specs.Places.{Laid};
 ghost use Rattle.expansion.specs.Writing.{HasSteps};
@@ -70,7 +71,8 @@ fn judge_written(
     i: usize,
     fresh: State,
 ) -> Judged
-    requires { ⌜ Written (now file) (now words) steps × Laid (now file) l × (i < l .rules .count) ⌝ }
+    requires { ⌜ Written (now file) (now words) steps × Laid (now file) l × (i < l .rules .count)
+        × ((a : AcceptedFile (now file)) → Fits (a .tree .fields) fresh) ⌝ }
     ensures { λ r. ⌜ ((a : AcceptedFile (now (file .entry))) (x : Rule) →
         getElem? (a .tree .rules) i ≡ some x → fresh ≡ startTree (a .tree) .state → r ≡ judgedOf (ruling (a .tree) x)) ⌝ }
 {

@@ -221,6 +221,10 @@ opening-fit f g =
       total-same = omega arith;
     }
 
+-- so a completed start leads to a fit record
+pub start-fit : (a : Agreement) → GoodTree a → isCompleted (startTree a .answer) ≡ true → Fit (a .fields) (startTree a .state)
+start-fit a g c = fit-kept (a .fields) _ _ (start-tree-kept a g c) (opening-fit (a .fields) (g .fields))
+
 -- ---- an accepted file
 
 module _ (file : List ℕ) (a : Agreement) (e : fileOf file ≡ good a) where

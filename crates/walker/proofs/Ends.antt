@@ -1,6 +1,6 @@
 -- What a step does to a run, and how a run goes on after it.
 -- Assumes nothing.
-use Prim.Native.Nat.{ℕ, _≤_, _<_}
+use Prim.Native.Nat.{ℕ, zero, suc, _+_, _-_, _≤_, _<_}
 use mathlib.Core.Path.{_≡_, refl, sym, ap, subst, _∙_}
 use mathlib.Core.Bool.{Bool, true, false, false≢true}
 use mathlib.Core.List.{List}
@@ -16,19 +16,34 @@ use Rattle.rules.specs.Expanding.{Step, fallbackEntry}
 use Rattle.rules.specs.Running.{Setting, Run, going, returned, stopped, perform, condition, guarded}
 use Rattle.rules.specs.Calling.{End, ended, halted, leads}
 use Rattle.rules.specs.Stepping.{Records, leaving, stepFrom, targetIn, with, onward, admitted, decided, performed, advance, taken, walk, walkFrom, walkBy}
-use Rattle.machine.specs.declared.Flow.{Flow}
-use Rattle.machine.specs.declared.How.{How}
-use Rattle.machine.specs.declared.How.the-variants.{Going, Returned, Stopped}
-use Rattle.machine.specs.declared.Tested.{Tested}
-use Rattle.machine.specs.Flows.{isGoing, flowOf, testedOf}
+use Rattle.machine.specs.Flows.{How, Flow, Tested, Going, Returned, Stopped, isGoing, howOf, flowOf, testedOf}
+use Rattle.machine.proofs.Codes.{stopped-code}
 use Rattle.machine.proofs.Keeping.{Kept, Keeps, kept-same, Room, perform-keeps, condition-keeps}
 use Rattle.forms.proofs.Choosing.{if-all}
 use Rattle.forms.proofs.Units.{Way, goes, Later, Costs, wayOf, perform-costs, condition-costs}
 use Rattle.forms.proofs.Endings.{walk-more}
-use Rattle.walker.specs.declared.Reached.{Reached}
-use Rattle.walker.specs.Runs.{reachedOf, toward}
+use Rattle.walker.specs.Runs.{Reached, reachedOf, toward}
 
 -- ---- ends as the code has them
+
+-- a refusal by its code; one that an action ended in; and an action that goes on or has returned
+pub code-halts : (k : ℕ) (m : Machine) → record { node = 0; flow = record { how = howOf (2 + k); machine = m } } ≡ reachedOf (halted k m)
+unfolding reachedOf
+code-halts k m =
+    let e : (2 + k) - 2 ≡ k = omega arith in
+    ap (λ (h : How). record { node = 0; flow = record { how = h; machine = m } }) (stopped-code (2 + k) (omega arith) ∙ ap Stopped e)
+
+pub code-stays : (n k : ℕ) (m : Machine) → 1 < k → record { node = 0; flow = record { how = howOf k; machine = m } } ≡ toward n (howOf k) m
+unfolding toward reachedOf
+code-stays n zero m h = absurd (omega arith)
+code-stays n (suc zero) m h = absurd (omega arith)
+code-stays n (suc (suc k)) m h = refl
+
+pub code-leads : (n k : ℕ) (m : Machine) → k ≤ 1 → reachedOf (ended n m) ≡ toward n (howOf k) m
+unfolding toward
+code-leads n zero m h = refl
+code-leads n (suc zero) m h = refl
+code-leads n (suc (suc k)) m h = absurd (omega arith)
 
 how-of : {r s : Reached} → r ≡ s → {b : Bool} → isGoing (r .flow .how) ≡ b → isGoing (s .flow .how) ≡ b
 how-of e h = sym (ap (λ (x : Reached). isGoing (x .flow .how)) e) ∙ h

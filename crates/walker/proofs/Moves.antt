@@ -11,13 +11,10 @@ use Rattle.rules.specs.Expanding.{expansion}
 use Rattle.rules.specs.Running.{Setting, perform, condition, guarded}
 use Rattle.rules.specs.Calling.{halted, leads}
 use Rattle.rules.specs.Stepping.{recordsIn, stepFrom, targetIn}
-use Rattle.machine.specs.declared.Flow.{Flow}
-use Rattle.machine.specs.declared.Tested.{Tested}
-use Rattle.machine.specs.Flows.{flowOf, testedOf}
+use Rattle.machine.specs.Flows.{Flow, Tested, flowOf, testedOf}
 use Rattle.forms.proofs.Units.{condition-costs}
-use Rattle.walker.specs.declared.Reached.{Reached}
 use Rattle.walker.specs.Tables.{Expanded, wordAt, stepAt}
-use Rattle.walker.specs.Runs.{reachedOf, toward, decidedIn, advanceIn, admittedIn}
+use Rattle.walker.specs.Runs.{Reached, reachedOf, toward, decidedIn, advanceIn, admittedIn}
 use Rattle.walker.proofs.Ends.{flow-toward, test-toward, test-toward-not, step-decides, step-performs, step-other, decided-is, performed-is, admitted-is}
 use Rattle.walker.proofs.Meeting.{ExprAt, SimpleAt, Condition}
 

@@ -18,9 +18,8 @@ use Rattle.machine.proofs.Keeping.{Kept, Room}
 use Rattle.actions.specs.declared.Frame.{Frame}
 use Rattle.actions.specs.Frames.{Framed}
 use Rattle.actions.proofs.Frames.{settingOf, framed}
-use Rattle.walker.specs.declared.Reached.{Reached}
 use Rattle.walker.specs.Tables.{Expanded, stepAt, placeFrom}
-use Rattle.walker.specs.Runs.{reachedOf, advanceIn, walkIn, Ready, Walkable}
+use Rattle.walker.specs.Runs.{Reached, reachedOf, advanceIn, walkIn, Ready, Walkable}
 use Rattle.walker.proofs.Ends.{step-keeps, step-costs, walk-ends, walk-refused, walk-stops, walk-goes}
 use Rattle.walker.proofs.Meeting.{same-tree, none-first, leaves}
 

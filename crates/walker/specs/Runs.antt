@@ -3,16 +3,23 @@ use Prim.Native.Nat.{ℕ, suc}
 use mathlib.Core.Path.{_≡_}
 use mathlib.Core.Option.{Option}
 use mathlib.Core.List.{List}
+use Rattle.machine.specs.Flows.{How, Going, Returned, Stopped, Flow, flowIn}
 use Rattle.rules.specs.declared.Machine.{Machine}
 use Rattle.rules.specs.Syntax.{Agreement}
 use Rattle.rules.specs.Expanding.{Step, expansion}
 use Rattle.rules.specs.Running.{Setting}
 use Rattle.rules.specs.Calling.{End, ended, halted}
 use Rattle.rules.specs.Stepping.{recordsIn, decided, advance, admitted, walkFrom, walkBy}
-use Rattle.machine.specs.declared.How.{How}
-use Rattle.machine.specs.declared.How.the-variants.{Going, Returned, Stopped}
-use Rattle.walker.specs.declared.Reached.{Reached}
+use Rattle.walker.specs.declared.Arrival.{Arrival}
 use Rattle.walker.specs.Tables.{Expanded, placeFrom, Indexed, GuardAt}
+
+-- a run on steps: its node, which is 0 where it is refused, and its flow; and one on lent arrays
+pub record Reached : Type 0 where
+  pub node : ℕ
+  pub flow : Flow
+
+abbrev pub reachedIn : (variables locals balances : List ℕ) → Arrival → Reached
+reachedIn vs ls bs r = record { node = r .node; flow = flowIn vs ls bs (r .progress) }
 
 -- the run has reached a node, or it is refused
 unfoldable pub reachedOf : End → Reached

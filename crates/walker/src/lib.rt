@@ -5,7 +5,7 @@ pub mod lookup;
 pub mod walk;
 pub mod words;
 
-use machine::Flow;
+use machine::Progress;
 
 // The places of the kind 1 steps in order, then zeros.
 pub struct Entries {
@@ -21,7 +21,7 @@ pub enum Entry {
 }
 
 // A run on steps: it goes on and has reached the node, or it is refused, and the node is 0.
-pub struct Reached {
+pub struct Arrival {
     pub node: u32,
-    pub flow: Flow,
+    pub progress: Progress,
 }

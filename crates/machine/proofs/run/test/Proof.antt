@@ -7,11 +7,11 @@ use Rattle.machine.proofs.run.test.Tie as tie
 
 returns : tie.Need-returns
 unfolding testValue orStop testedOf
-returns c = rw (c .before .before .v .given .1, c .is-true .ensures)
+returns c = λ vs ls bs. rw (c .before .before .v .given .1, c .is-true .ensures)
 
 returns-2 : tie.Need-returns-2
 unfolding testValue orStop testedOf
-returns-2 c = rw (c .enum-told .given .1)
+returns-2 c = λ vs ls bs. rw (c .enum-told .given .1)
 
 pub test-spec : {M : Type 1} → statement M
 test-spec = tie.close (tie.spec (λ c. search needs) (λ c κs. search needs) (λ c. search needs) returns returns-2)

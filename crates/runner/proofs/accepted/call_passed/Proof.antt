@@ -1,13 +1,14 @@
 -- `call_passed` meets its contract, by what is found of the name.
-use Prim.Native.Nat.{_+_, _≤_}
-use mathlib.Core.Path.{sym, ap, _∙_}
+use Prim.Native.Nat.{_+_}
+use mathlib.Core.Path.{_≡_, sym, subst, _∙_}
 use native.Mathlib.Omega.{arith}
+use lib.ListN.{length, replicate}
 use borrow.Author.Needs.{needs}
 use denote.Ref.{now}
-use Rattle.rules.specs.Syntax.{Stmt}
-use Rattle.rules.specs.Running
-use Rattle.machine.specs.Flows.{flowOf, Solvent}
-use Rattle.machine.proofs.Calls.{Enters}
+use Rattle.rules.specs.declared.Machine.{Machine}
+use Rattle.rules.specs.Calling.{entered, total}
+use Rattle.machine.specs.Flows.{machineOf, Funded}
+use Rattle.machine.proofs.Calls.{Enters, enters-funded}
 use Rattle.machine.proofs.Lengths.{state-lengths}
 use Rattle.access.specs.Trees.{AcceptedFile}
 use Rattle.access.specs.Places.{Laid}
@@ -16,20 +17,21 @@ use Rattle.runner.proofs.Runs.{standing, few-accounts, moves, call-ente
 use Rattle.runner.proofs.accepted.call_passed.Statement.{statement}
 use Rattle.runner.proofs.accepted.call_passed.Tie as tie
 
-entry : (c : tie.After-shared-slice-known) → Enters (c .before .args .s) (c .before .args .k)
-entry c =
-    let s = c .before in
-    call-enters (s .pre .0) (s .pre .1 (s .pre .0)) (s .pre .2) (state-lengths (s .args .s) _ (s .good .1 .1 .0) .1)
+entry : (s : tie.Start) → (length (s .args .s .balances) ≡ 8) × Enters (s .args .s) (s .args .k)
+entry s =
+    let full = state-lengths (s .args .s) _ (s .good .1 .1 .0) .1 in
+    (full, call-enters (s .pre .0) (s .pre .1 (s .pre .0)) (s .pre .2) full)
 
 entered-requires : tie.Need-entered-requires
-entered-requires c κs = let e = entry c in (e .sender, e .coins, e .small)
+unfolding total
+entered-requires c κs = let e = entry (c .before .before .before .before) .1 in (e .sender, e .coins, e .small)
 
 layout-requires : tie.Need-layout-requires
-layout-requires c κs = tree-of (c .before .before .before .before .pre .0)
+layout-requires c κs = tree-of (c .before .before .before .before .before .before .before .pre .0)
 
 -- what the layout was asked of
 abbrev begun : tie.After-layout → tie.Start
-begun c = c .before .before .before .before .before
+begun c = c .before .before .before .before .before .before .before .before
 
 laid : (c : tie.After-layout) (a : AcceptedFile (now (begun c .args .file))) → Laid (now (begun c .args .file)) (c .layout .result)
 laid c a = record { read = tree-of a; out = c .layout .ensures (tree-of a) }
@@ -37,13 +39,21 @@ laid c a = record { read = tree-of a; out = c .layout .ensures (tree-of a) }
 find-transition-requires : tie.Need-find-transition-requires
 find-transition-requires c κs = laid c (begun c .pre .0)
 
--- a run may begin
-able : (c : tie.After-layout) → (c .before .before .frame-of .result .accounts ≤ 8) × Solvent (c .before .before .before .entered .result)
-able c =
-    let s = begun c in (
-      few-accounts (s .pre .0) (s .pre .1 (s .pre .0)) (c .before .before .frame-of .ensures),
-      rw (c .before .before .before .entered .ensures) (entry (c .before .before .before .before) .solvent),
-    )
+-- the machine that the call begins with
+abbrev machine : tie.After-layout → Machine
+machine c =
+    let e = c .before .before .before .entered in
+    machineOf (begun c .args .s .variables) (replicate 8 0) (e .last .1 .1 .0) (e .result)
+
+begins : (c : tie.After-layout) → machine c ≡ entered (begun c .args .k) (begun c .args .s)
+begins c = c .before .before .before .entered .ensures _ _
+
+funded : (c : tie.After-layout) → Funded (c .before .before .frame-of .result .accounts) (machine c)
+funded c =
+    let s = begun c in
+    let e = entry s in
+    let few = few-accounts (s .pre .0) (s .pre .1 (s .pre .0)) (c .before .before .frame-of .ensures) in
+    subst (Funded (c .before .before .frame-of .result .accounts)) (sym (begins c)) (enters-funded (e .1) few (e .0))
 
 -- the fallback action, at its offset
 fallback :
@@ -52,12 +62,12 @@ fallback :
 fallback c a = fallback-at (laid c a) (tree-of a)
 
 sub-run-statement : tie.Need-sub-run-statement
-sub-run-statement c = omega (arith, fallback (c .before .before .before) (begun (c .before .before .before) .pre .0) .fits)
+sub-run-statement c = let l = c .before .before .before in omega (arith, fallback l (begun l .pre .0) .fits)
 
 run-statement-requires : tie.Need-run-statement-requires
 run-statement-requires c κs =
-    let l = c .before .before .before .before .before in
-    (standing (fallback l (begun l .pre .0)) .0, able l .0, able l .1)
+    let l = c .before .before .before .before .before .before .before .before in
+    (standing (fallback l (begun l .pre .0)) .0, funded l)
 
 -- the transition that was found
 found :
@@ -77,8 +87,9 @@ cast-to c = omega (arith, c .shared-slice-known2 .given (c .before .before .at .
 
 run-transition-requires : tie.Need-run-transition-requires
 run-transition-requires c κs =
-    let l = c .before .before .before .before .before .before in
-    (moves (found (c .before .before) (begun l .pre .0)) .0, able l .0, able l .1)
+    let k = c .before .before .before .before .before in
+    let l = k .before .before .before .before in
+    (moves (found k (begun l .pre .0)) .0, funded l)
 
 returns : tie.Need-returns
 returns c = λ a.
@@ -90,25 +101,28 @@ returns c = λ a.
 
 returns-2 : tie.Need-returns-2
 returns-2 c = λ a.
-    let f = c .before .before .before .before .before .before in
+    let q = c .before in
+    let t = q .before .before .before .before .before .before in
+    let f = t .before .before in
     let l = f .before in
     let s = begun l in
-    let e = find-unknown (tree-of a) _ _ (sym (c .before .before .before .before .enum-told2 .given .1) ∙ f .find-transition .ensures (tree-of a)) in
+    let e = find-unknown (tree-of a) _ _ (sym (t .enum-told2 .given .1) ∙ f .find-transition .ensures (tree-of a)) in
     let x = standing (fallback l a) in
-    let r = c .before .run-statement .ensures (x .0) _ (l .before .before .frame-of .ensures) in
-    c .called .ensures _ (r ∙ ap (λ (t : Stmt). flowOf (Running.statement _ t _)) (x .1))
-    ∙ tree-unknown (a .tree) (s .args .s) (s .args .k) (s .pre .1 a) (s .pre .2) (e .0) (e .1) (l .before .before .before .entered .ensures)
+    let r = q .run-statement .ensures (x .0) _ (l .before .before .frame-of .ensures) in
+    c .ended .ensures _ _ (rw (x .1) at r)
+    ∙ tree-unknown (a .tree) (s .args .s) (s .args .k) (s .pre .1 a) (s .pre .2) (e .0) (e .1) (begins l)
 
 returns-3 : tie.Need-returns-3
 returns-3 c = λ a.
-    let l = c .before .before .before .before .before .before .before .before in
+    let q = c .before in
+    let k = q .before .before .before .before .before .before in
+    let l = k .before .before .before .before in
     let s = begun l in
-    let x = found (c .before .before .before .before) a in
+    let x = found k a in
     let v = moves x in
-    let r = c .before .run-transition .ensures (v .0) _ (l .before .before .frame-of .ensures) in
-    let m = l .before .before .before .entered .ensures in
-    c .called2 .ensures _ (rw (v .1, v .2) at r)
-    ∙ tree-found (a .tree) (s .args .s) (s .args .k) (s .pre .1 a) (s .pre .2) (x .transition) (x .is) m (x .record-at .to)
+    let r = q .run-transition .ensures (v .0) _ (l .before .before .frame-of .ensures) in
+    c .ended2 .ensures _ _ (rw (v .1, v .2) at r)
+    ∙ tree-found (a .tree) (s .args .s) (s .args .k) (s .pre .1 a) (s .pre .2) (x .transition) (x .is) (begins l) (x .record-at .to)
 
 pub call-passed-spec : {M : Type 1} → statement M
 call-passed-spec =

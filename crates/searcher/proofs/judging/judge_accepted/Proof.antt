@@ -13,7 +13,7 @@ use Rattle.access.proofs.Items.{rule-at}
 use Rattle.access.proofs.Using.{counts, tree-bounds, tree-of}
 use Rattle.searcher.specs.Searching.{Planned}
 use Rattle.searcher.proofs.Judges.{accepted-of, fields-of}
-use Rattle.searcher.proofs.Lists.{few-rows, shows-none}
+use Rattle.searcher.proofs.Lists.{few-rows}
 use Rattle.searcher.proofs.Runs.{ruling-by}
 use Rattle.searcher.proofs.judging.judge_accepted.Statement.{statement}
 use Rattle.searcher.proofs.judging.judge_accepted.Tie as tie
@@ -28,8 +28,8 @@ at-first-requires c κs =
     let x = rule-here s in
     (x .0, c .before .judge-at .ensures (tree-of (accepted-of (s .pre .0))) (x .0) (x .1))
 
-cast-t17 : tie.Need-cast-t17
-cast-t17 c = omega (arith, few-rows (c .before .before .before .before .before .before .pre .1))
+cast-t15 : tie.Need-cast-t15
+cast-t15 c = omega (arith, few-rows (c .before .before .before .before .before .before .pre .1))
 
 -- what the search goes by
 abbrev planned : (c : tie.After-calls) (a : AcceptedFile (now (c .before .before .before .before .before .before .before .before .args .file))) (x : Rule)
@@ -54,7 +54,7 @@ search-requires c κs =
     let s = c .before .before .before .before .before .before .before .before in
     let x = rule-here s in
     let b = tree-bounds (tree-of (accepted-of (s .pre .0))) .fields .small-depth in
-    (planned c (accepted-of (s .pre .0)) (x .0) (x .1), shows-none, omega (arith, ap (λ (f : Fields). f .depth) (fields-of (s .pre .0) (accepted-of (s .pre .0))), b))
+    (planned c (accepted-of (s .pre .0)) (x .0) (x .1), s .pre .3, omega (arith, ap (λ (f : Fields). f .depth) (fields-of (s .pre .0) (accepted-of (s .pre .0))), b))
 
 returns : tie.Need-returns
 returns c = λ a x h fresh.
@@ -62,7 +62,7 @@ returns c = λ a x h fresh.
     let s = f .before .before .before .before .before in
     let fields = fields-of (s .pre .0) a in
     c .search .ensures (planned (c .before) a x h)
-    ∙ ap judgedOf (ruling-by (a .tree) x (s .args .fresh) (f .at-first .result) _ fresh (f .at-first .ensures x (f .before .before .judge-at .ensures (tree-of a) x h)) _ _ _
+    ∙ ap judgedOf (ruling-by (a .tree) x (s .args .fresh) (f .at-first .result) fresh (f .at-first .ensures x (f .before .before .judge-at .ensures (tree-of a) x h)) _ _ _
     (ap (λ (f : Fields). f .bound) fields) (counts (s .pre .1) (tree-of a) .1) (ap (λ (f : Fields). f .depth) fields))
 
 pub judge-accepted-spec : {M : Type 1} → statement M
@@ -72,7 +72,7 @@ judge-accepted-spec =
     (λ c κs. (c .before .before .pre .1, c .before .before .pre .2))
     (λ c κs. c .before .before .before .pre .1)
     at-first-requires
-    cast-t17
+    cast-t15
     (λ c. search needs)
     search-requires
     returns)

@@ -1,8 +1,7 @@
 -- By the rule's type.
 use mathlib.Core.Path.{_≡_}
-use borrow.Author.Needs.{needs}
 use denote.Ref.{now}
-use Rattle.rules.specs.Syntax.{Expr, Rule}
+use Rattle.rules.specs.Syntax.{Expr}
 use Rattle.rules.specs.Judging.{breaksBy}
 use mathlib.Core.Bool.{false}
 use Rattle.searcher.specs.Standing.{ExpressionAt, breaksAfter}
@@ -12,18 +11,17 @@ use Rattle.searcher.proofs.standing.at_first.Tie as tie
 
 is-violated-requires : tie.Need-is-violated-requires
 is-violated-requires c κs =
-    let s = c .before .before .before in
+    let s = c .before .before .before .before .before in
     let f = now (s .args .file) in
     let j = s .args .judge in
-    type-one f j (λ _. (e : Expr) × ExpressionAt f (j .at) e) (s .pre .0) (s .pre .1) (c .if1 .taken) (λ e h. (e, h))
+    type-one f j (λ _. (e : Expr) × ExpressionAt f (j .at) e) (s .pre .0) (s .pre .1) (c .before .before .if1 .taken) (λ e h. (e, h))
 
 returns : tie.Need-returns
 returns c = λ rule h es.
-    let s = c .before .before .before .before in
-    let a = s .args in
+    let a = c .before .before .before .before .before .before .args in
     type-one (now (a .file)) (a .judge)
     (λ rule. breaksAfter rule (record { broken = c .is-violated .result; seen = false }) es ≡ breaksBy rule (a .s) es)
-    rule h (c .before .if1 .taken) (λ e k. begins-always e (a .s) (c .is-violated .result) (c .is-violated .ensures e k) es)
+    rule h (c .before .before .before .if1 .taken) (λ e k. begins-always e (a .s) (c .is-violated .result) (c .is-violated .ensures e k (a .s .balances)) es)
 
 returns-2 : tie.Need-returns-2
 returns-2 c = λ rule h es.

@@ -1,4 +1,5 @@
 -- The tests 10, 11 and 27, and then the verdict on the written steps.
+use mathlib.Core.Bool.{true}
 use mathlib.Core.Path.{_≡_, refl, sym, ap, _∙_}
 use mathlib.Core.Option.{some}
 use native.Mathlib.Omega.{arith}
@@ -6,19 +7,16 @@ use lib.ListN.{length, getElem?}
 use borrow.Author.Needs.{needs}
 use borrow.Author.Tests.{not-true, not-false}
 use denote.Ref.{now}
-use Prim.Native.Nat.{ℕ, _*_, _≤_}
-use mathlib.Core.List.{List}
-use Rattle.rules.specs.declared.Judged.{Judged}
+use Prim.Native.Nat.{_*_, _≤_}
 use Rattle.rules.specs.declared.Outcome.{Outcome}
 use Rattle.rules.specs.Syntax.{Rule}
 use Rattle.rules.specs.Expanding.{expansion}
-use Rattle.rules.specs.Accepting.{lent, written}
 use Rattle.rules.specs.Calling.{startTree}
 use Rattle.rules.specs.Judging.{isCompleted}
 use Rattle.access.specs.Places.{Laid}
 use Rattle.access.proofs.Items.{rule-at}
 use Rattle.access.proofs.Using.{counts, tree-of, few-steps}
-use Rattle.searcher.proofs.Answers.{no-rule, few-words, failed-start, was-judged, written-words}
+use Rattle.searcher.proofs.Answers.{no-rule, few-words, failed-start, was-judged, start-fits, written-words}
 use Rattle.searcher.proofs.verdicts.verdict_accepted.Statement.{statement}
 use Rattle.searcher.proofs.verdicts.verdict_accepted.Tie as tie
 
@@ -59,16 +57,22 @@ enough c = omega (arith, c .if2 .left, c .before .before .before .before .before
 started : (c : tie.After-start-accepted) → c .start-accepted .result ≡ startTree (c .before .before .before .before .before .before .before .pre .0 .tree)
 started c = c .start-accepted .ensures (c .before .before .before .before .before .before .before .pre .0)
 
+completed : (c : tie.Else3) → isCompleted (c .before .before .start-accepted .result .answer) ≡ true
+completed c = sym (c .before .is-completed .ensures) ∙ not-false _ (c .if3 .left)
+
 returns-3 : tie.Need-returns-3
 returns-3 c =
     let s = c .before .before .before .before .before .before .before .before .before .before .before in
     let x = rule-here (c .before .before .before .before .before .before) in
     rw (c .unshown3 .ensures, c .before .refusal3 .ensures)
     (failed-start (s .pre .0) (now (s .args .words)) (s .args .i) (x .0) (x .1) (enough (c .before .before .before .before .before))
-    (ap (λ (o : Outcome). isCompleted (o .answer)) (sym (started (c .before .before .before .before))) ∙ sym (c .before .before .before .is-completed .ensures) ∙ not-true _ (c .before .before .if3 .taken)))
+    (ap (λ (o : Outcome). isCompleted (o .answer)) (sym (started (c .before .before .before .before)))
+    ∙ sym (c .before .before .before .is-completed .ensures) ∙ not-true _ (c .before .before .if3 .taken)))
 
 write-expansion-requires : tie.Need-write-expansion-requires
-write-expansion-requires c κs = let s = c .before .before .before .before .before .before .before .before .before .before .before in record { accepted = s .pre .0; room = enough (c .before .before .before .before .before) }
+write-expansion-requires c κs =
+    let s = c .before .before .before .before .before .before .before .before .before .before .before in
+    record { accepted = s .pre .0; room = enough (c .before .before .before .before .before) }
 
 judge-written-requires : tie.Need-judge-written-requires
 judge-written-requires c κs =
@@ -80,6 +84,7 @@ judge-written-requires c κs =
       },
       laid (c .before .before .before .before .before .before .before .before .before .before .before .before),
       omega (arith, c .before .before .before .before .before .before .before .before .before .before .if1 .left),
+      λ a. start-fits a (c .before .before .before .before .before .before .before .before .start-accepted .ensures a) (completed (c .before .before .before .before .before .before)),
     )
 
 returns-4 : tie.Need-returns-4
@@ -88,7 +93,7 @@ returns-4 c =
     let a = s .pre .0 in
     let x = rule-here (c .before .before .before .before .before .before .before .before .before .before .before) in
     let o = started (c .before .before .before .before .before .before .before .before .before) in
-    let done = ap (λ (o : Outcome). isCompleted (o .answer)) (sym o) ∙ sym (c .before .before .before .before .before .before .before .before .is-completed .ensures) ∙ not-false _ (c .before .before .before .before .before .before .before .if3 .left) in
+    let done = ap (λ (o : Outcome). isCompleted (o .answer)) (sym o) ∙ completed (c .before .before .before .before .before .before .before) in
     rw (c .judge-written .ensures a (x .0) (x .1) (ap (λ (o : Outcome). o .state) o), c .before .before .before .before .write-expansion .ensures a)
     (was-judged a (now (s .args .words)) (s .args .i) (x .0) (x .1) (enough (c .before .before .before .before .before .before .before .before .before .before)) done)
 

@@ -6,9 +6,10 @@ use native.Mathlib.Omega.{arith}
 use lib.ListN.{length}
 use borrow.Author.Needs.{needs}
 use denote.Ref.{now}
+use Rattle.rules.specs.declared.Machine.{Machine}
 use Rattle.rules.specs.Syntax.{Simple}
 use Rattle.rules.specs.Running.{perform}
-use Rattle.machine.specs.Flows.{flowOf}
+use Rattle.machine.specs.Flows.{machineOf, flowOf}
 use Rattle.walker.specs.Tables.{Expanded, wordAt}
 use Rattle.walker.proofs.Meeting.{first-of, SimpleFrom, SimpleAt, here, not-three, simple-met}
 use Rattle.walker.proofs.Moves.{decides, performs, refuses}
@@ -18,6 +19,9 @@ use Rattle.walker.proofs.walk.advance.Tie as tie
 abbrev start : tie.After-word → tie.Start
 start w = w .before .before .before
 
+abbrev machine : tie.Start → Machine
+machine s = machineOf (now (s .args .variables)) (now (s .args .locals)) (now (s .args .balances)) (s .args .n)
+
 room : (s : tie.Start) → 5 * s .args .i + 5 ≤ length (now (s .args .words))
 room s = let r = s .pre .0 in here (r .expanded) (s .args .i) (r .node) (r .first) .room
 
@@ -25,7 +29,8 @@ room s = let r = s .pre .0 in here (r .expanded) (s .args .i) (r .node) (r .firs
 met :
     (t : tie.Then2) →
     let s = start (t .before .before .before) in
-    (a : Expanded (now (s .args .file)) (now (s .args .words))) → SimpleAt (now (s .args .file)) (a .tree .fields .variables) (wordAt (now (s .args .words)) (s .args .i) 4)
+    (a : Expanded (now (s .args .file)) (now (s .args .words))) →
+    SimpleAt (now (s .args .file)) (a .tree .fields .variables) (wordAt (now (s .args .words)) (s .args .i) 4)
 met t a =
     let w = t .before .before .before in
     let s = start w in
@@ -46,7 +51,9 @@ word-requires : tie.Need-word-requires
 word-requires c κs = omega (arith, room (c .before .before))
 
 decide-requires : tie.Need-decide-requires
-decide-requires c κs = let s = start (c .before) in (s .pre .0, sym (c .before .word .ensures) ∙ c .match .keys1)
+decide-requires c κs =
+    let k = c .before .before in
+    (start (k .before) .pre .0, sym (k .before .word .ensures) ∙ k .match .keys1)
 
 word-requires-2 : tie.Need-word-requires-2
 word-requires-2 c κs = omega (arith, room (start (c .before .before .before)))
@@ -59,34 +66,35 @@ part-start c = bytes (c .before) (start (c .before .before .before .before .befo
 
 perform-requires : tie.Need-perform-requires
 perform-requires c κs =
-    let w = c .before .before in
+    let w = c .before .before .before .before .before in
     let s = start (w .before .before .before .before .before) in
-    (bytes w (s .pre .0 .expanded) .bytes, s .pre .1, s .pre .2)
+    (bytes w (s .pre .0 .expanded) .bytes, s .pre .1)
 
 returns : tie.Need-returns
 returns c = λ a d h.
-    let w = c .before .before in
-    let s = start w in
-    decides a (s .args .i) d (s .args .m) (sym (w .word .ensures) ∙ c .before .match .keys1) (c .decide .ensures a d h)
+    let k = c .before .before .before in
+    let s = start (k .before) in
+    decides a (s .args .i) d (machine s) (sym (k .before .word .ensures) ∙ k .match .keys1) (c .decide .ensures _ a d h)
 
 returns-2 : tie.Need-returns-2
 returns-2 c = λ a d h.
     let p = c .before in
-    let v = p .before .before in
+    let v = p .before .before .before .before .before in
     let w = v .before in
     let t = w .before .before in
     let u = t .before .before .before in
     let s = start u in
     let b = bytes w a in
-    performs a (s .args .i) d (s .args .m) _ (met t a) (p .perform .ensures (b .bytes) d h ∙ ap (λ (x : Simple). flowOf (perform d x (s .args .m))) (b .is)) (c .led .ensures)
-    (omega (arith, t .before .if1 .left, u .word .ensures)) (omega (arith, t .if2 .taken, u .word .ensures)) (v .word3 .ensures)
+    performs a (s .args .i) d (machine s) _ (met t a) (p .perform .ensures (b .bytes) d h ∙ ap (λ (x : Simple). flowOf (perform d x (machine s))) (b .is))
+    (c .led .ensures _ _ _) (omega (arith, t .before .if1 .left, u .word .ensures)) (omega (arith, t .if2 .taken, u .word .ensures)) (v .word3 .ensures)
 
 returns-3 : tie.Need-returns-3
 returns-3 c = λ a d h.
     let w = c .before .before .before in
     let s = start w in
     let k = w .word .ensures in
-    refuses a (s .args .i) d (s .args .m) (c .halted .ensures) (λ z. c .before .before .match .rest .1 (k ∙ z)) (not-three a (s .args .i) (s .pre .0 .node) (first-of (s .pre .0) a))
+    refuses a (s .args .i) d (machine s) (c .halted .ensures _ _ _) (λ z. c .before .before .match .rest .1 (k ∙ z))
+    (not-three a (s .args .i) (s .pre .0 .node) (first-of (s .pre .0) a))
     (λ l u. ⊎-elim (λ t. omega (arith, t .taken, k)) (λ t. omega (arith, t .1 .left, k)) (c .before .if1 .came))
 
 pub advance-spec : {M : Type 1} → statement M

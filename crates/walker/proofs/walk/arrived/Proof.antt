@@ -6,7 +6,7 @@ use Rattle.walker.proofs.walk.arrived.Tie as tie
 
 returns : tie.Need-returns
 unfolding reachedOf
-returns c = refl
+returns c = λ vs ls bs. refl
 
 pub arrived-spec : {M : Type 1} → statement M
 arrived-spec = tie.close (tie.spec returns)

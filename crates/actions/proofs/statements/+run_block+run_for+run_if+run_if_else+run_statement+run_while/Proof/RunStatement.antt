@@ -8,12 +8,12 @@ use denote.Ref.{now}
 use borrow.Author.Needs.{needs}
 use Rattle.rules.specs.Basics.{part, number}
 use Rattle.rules.specs.Syntax.{ifThen, while}
+use Rattle.rules.specs.Running.{statement}
 use Rattle.rules.specs.Reading.{sizeOf, kindOf}
 use Rattle.records.specs.Acceptance.{Good}
 use Rattle.records.proofs.Parts.{part-length}
 use Rattle.records.proofs.Goods as laws
 use Rattle.records.proofs.Goods.{OneStep, Block, Conditional, Alternative, Repetition, set-step}
-use Rattle.actions.proofs.Branches.{simple-is, block-is}
 use Rattle.actions.proofs.OneStep.{one-step}
 use Rattle.actions.proofs.statements.run_statement.Reads as own
 use Rattle.actions.proofs.statements.+run_block+run_for+run_if+run_if_else+run_statement+run_while.Lts-run_statement as lts
@@ -149,9 +149,9 @@ module _ (t : ℕ) where
 
   run-block-requires : lts.Need-run-block-requires (calls t) (run-statement-at t) own.Post
   run-block-requires c κs =
-      let b = c .before .before in
-      let s = start b in
-      (shorter b 4 (omega arith), (block-arm (c .before) (mine b) .inner, s .pre .1 .1, s .pre .1 .2))
+      let m = c .before .before .before .before in
+      let b = m .before in
+      (shorter b 4 (omega arith), (block-arm m (mine b) .inner, start b .pre .1 .1))
 
   u16-at-requires-3 : lts.Need-u16-at-requires-3 (calls t) (run-statement-at t) own.Post
   u16-at-requires-3 c κs = omega (arith, if-arm c (mine (c .before)) _ refl .eight, high (c .before))
@@ -176,10 +176,10 @@ module _ (t : ℕ) where
 
   run-if-requires : lts.Need-run-if-requires (calls t) (run-statement-at t) own.Post
   run-if-requires c κs =
-      let p = if-parts (c .before .before) in
-      let b = c .before .before .before .before in
-      let s = start b in
-      (shorter b (4 + c .before .before .u16-at3 .result) (omega arith), (p .test, p .body, s .pre .1 .1, s .pre .1 .2))
+      let u = c .before .before .before .before .before in
+      let p = if-parts u in
+      let b = u .before .before in
+      (shorter b (4 + u .u16-at3 .result) (omega arith), (p .test, p .body, start b .pre .1 .1))
 
   u16-at-requires-4 : lts.Need-u16-at-requires-4 (calls t) (run-statement-at t) own.Post
   u16-at-requires-4 c κs = omega (arith, else-arm c (mine (c .before)) _ _ refl refl .eight, high (c .before))
@@ -216,12 +216,11 @@ module _ (t : ℕ) where
 
   run-if-else-requires : lts.Need-run-if-else-requires (calls t) (run-statement-at t) own.Post
   run-if-else-requires c κs =
-      let u = c .before .before .before in
+      let u = c .before .before .before .before .before .before in
       let p = else-parts u in
       let b = u .before .before .before in
-      let s = start b in
       let i = 4 + u .before .u16-at4 .result in
-      (omega (arith, shorter b i (omega arith), shorter b (i + u .u16-at5 .result) (omega arith)), (p .test, p .yes, p .no, s .pre .1 .1, s .pre .1 .2))
+      (omega (arith, shorter b i (omega arith), shorter b (i + u .u16-at5 .result) (omega arith)), (p .test, p .yes, p .no, start b .pre .1 .1))
 
   u16-at-requires-6 : lts.Need-u16-at-requires-6 (calls t) (run-statement-at t) own.Post
   u16-at-requires-6 c κs = omega (arith, while-arm c (mine (c .before)) _ refl .eight, high (c .before))
@@ -246,10 +245,10 @@ module _ (t : ℕ) where
 
   run-while-requires : lts.Need-run-while-requires (calls t) (run-statement-at t) own.Post
   run-while-requires c κs =
-      let p = while-parts (c .before .before) in
-      let b = c .before .before .before .before in
-      let s = start b in
-      (shorter b (4 + c .before .before .u16-at6 .result) (omega arith), (p .test, p .body, s .pre .1 .1, s .pre .1 .2))
+      let u = c .before .before .before .before .before in
+      let p = while-parts u in
+      let b = u .before .before in
+      (shorter b (4 + u .u16-at6 .result) (omega arith), (p .test, p .body, start b .pre .1 .1))
 
   u16-at-requires-7 : lts.Need-u16-at-requires-7 (calls t) (run-statement-at t) own.Post
   u16-at-requires-7 c κs = omega (arith, for-arm c (mine (c .before)) _ _ _ refl refl refl .eight, high (c .before))
@@ -300,40 +299,40 @@ module _ (t : ℕ) where
 
   run-for-requires : lts.Need-run-for-requires (calls t) (run-statement-at t) own.Post
   run-for-requires c κs =
-      let u = c .before .before .before .before in
+      let u = c .before .before .before .before .before .before .before in
       let p = for-parts u in
       let b = u .before .before .before .before in
-      let s = start b in
       let i = 4 + u .before .before .u16-at7 .result + u .before .u16-at8 .result + u .u16-at9 .result in
-      (shorter b i (omega arith), (set-step (p .initial) .step, p .test, set-step (p .closing) .step, p .body, s .pre .1 .1, s .pre .1 .2))
+      (shorter b i (omega arith), (set-step (p .initial) .step, p .test, set-step (p .closing) .step, p .body, start b .pre .1 .1))
 
   perform-requires : lts.Need-perform-requires (calls t) (run-statement-at t) own.Post
-  perform-requires c κs = let b = c .before in let s = start b in (one-arm c (mine b) .step, s .pre .1 .1, s .pre .1 .2)
+  perform-requires c κs = let m = c .before .before .before in let b = m .before in (one-arm m (mine b) .step, start b .pre .1 .1)
 
   returns : lts.Need-returns (calls t) (run-statement-at t) own.Post
-  returns c = λ a d h. let p = block-arm (c .before .before) a in block-is d _ (c .run-block .ensures (p .inner) d h) (p .is)
+  unfolding statement
+  returns c = λ a d h. let p = block-arm (c .before .before .before .before .before) a in rw (p .is) (c .run-block .ensures (p .inner) d h)
 
   returns-2 : lts.Need-returns-2 (calls t) (run-statement-at t) own.Post
   returns-2 c = λ a d h.
-      let u = c .before .before .before in
+      let u = c .before .before .before .before .before .before in
       let p = if-arm (u .before) a (u .u16-at3 .result) (u .u16-at3 .ensures .0) in
       rw (p .is) (c .run-if .ensures (p .test) (p .body) d h _)
 
   returns-3 : lts.Need-returns-3 (calls t) (run-statement-at t) own.Post
   returns-3 c = λ a d h.
-      let u = c .before .before .before .before in
+      let u = c .before .before .before .before .before .before .before in
       let p = else-arm (u .before .before) a _ _ (u .before .u16-at4 .ensures .0) (u .u16-at5 .ensures .0) in
       rw (p .is) (c .run-if-else .ensures (p .test) (p .yes) (p .no) d h _)
 
   returns-4 : lts.Need-returns-4 (calls t) (run-statement-at t) own.Post
   returns-4 c = λ a d h.
-      let u = c .before .before .before in
+      let u = c .before .before .before .before .before .before in
       let p = while-arm (u .before) a (u .u16-at6 .result) (u .u16-at6 .ensures .0) in
       rw (p .is) (c .run-while .ensures (p .test) (p .body) d h _)
 
   returns-5 : lts.Need-returns-5 (calls t) (run-statement-at t) own.Post
   returns-5 c = λ a d h.
-      let u = c .before .before .before .before .before in
+      let u = c .before .before .before .before .before .before .before .before in
       let v = u .before .before in
       let p = for-arm (v .before) a _ _ _ (v .u16-at7 .ensures .0) (u .before .u16-at8 .ensures .0) (u .u16-at9 .ensures .0) in
       let x = set-step (p .initial) in
@@ -341,7 +340,8 @@ module _ (t : ℕ) where
       rw (p .is, x .is, y .is) (c .run-for .ensures (x .step) (p .test) (y .step) (p .body) d h _ _ _)
 
   returns-6 : lts.Need-returns-6 (calls t) (run-statement-at t) own.Post
-  returns-6 c = λ a d h. let p = one-arm (c .before) a in simple-is d _ (c .perform .ensures (p .step) d h) (p .is)
+  unfolding statement
+  returns-6 c = λ a d h. let p = one-arm (c .before .before .before .before) a in rw (p .is) (c .perform .ensures (p .step) d h)
 
 pub run-statement : (t : ℕ) {M : Type 1} → lts.Closed (calls t) (run-statement-at t) own.Post M
 run-statement t =
