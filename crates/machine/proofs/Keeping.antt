@@ -1,6 +1,6 @@
 -- What every run keeps: the sum of all balances and the own balance, and the arrays' lengths. Units never fall, and never pass a limit
 -- that they had not passed.
-use mathlib.Core.Path.{_≡_, refl, _∙_, ap}
+use mathlib.Core.Path.{_≡_, refl, _∙_}
 use mathlib.Core.Bool.{Bool, true, false, _&&_}
 use Prim.Native.Nat.{ℕ, zero, suc, _+_, _-_, _≤_}
 use native.Mathlib.Omega.{arith}
@@ -17,7 +17,6 @@ use Rattle.rules.specs.Values.{evaluate, isTrue}
 use Rattle.rules.specs.Running.{Setting, Run, going, returned, stopped, Exec, Action, after, skip, stop, orStop, view, value}
 use Rattle.rules.specs.Running.{charge, assign, pay, answer, perform, condition, loop, repeat, statement, statements, guarded}
 use Rattle.machine.specs.Flows.{Flow, Tested, flowOf, testedOf, funds, Solvent, Funded}
-use Rattle.machine.specs.Flows.{assignValue, payValues, answerValue, demandValue, testValue}
 use Rattle.machine.proofs.Sums.{sum-set}
 
 -- from m to w, at a limit
@@ -100,27 +99,6 @@ charge-keeps l m = go (ltb (m .units) l) refl
         (record { total = refl; variables = refl; locals = refl; balances = refl; units = omega arith; within = λ _. omega arith })
     go false e = rw e (kept-same l m)
 
--- a charge that goes through is one unit more, within the limit
-pub charge-counts : (l : ℕ) (m w : Machine) → charge l m ≡ going tt w → (w .units ≡ m .units + 1) × (w .units ≤ l)
-unfolding charge flowOf
-charge-counts l m w = go (ltb (m .units) l) refl
-  where
-    go : (b : Bool) → ltb (m .units) l ≡ b → charge l m ≡ going tt w → (w .units ≡ m .units + 1) × (w .units ≤ l)
-    go true e h =
-        let f = ltb-true (m .units) l e in
-        let u : m .units + 1 ≡ w .units = ap (λ (r : Run (Unit {0})). flowOf r .machine .units) (rw e at h) in
-        (omega arith, omega arith)
-    go false e h = let z : _≡_ {A = ℕ} 0 1 = cc (rw e at h) in (absurd (omega arith), absurd (omega arith))
-
--- no charge is more than one unit
-pub charge-once : (l : ℕ) (m : Machine) (f : Flow) → f ≡ flowOf (charge l m) → f .machine .units ≤ m .units + 1
-unfolding charge flowOf
-charge-once l m f e = go (ltb (m .units) l) refl
-  where
-    go : (b : Bool) → ltb (m .units) l ≡ b → f .machine .units ≤ m .units + 1
-    go true h = rw (e, h) (omega arith)
-    go false h = rw (e, h) (omega arith)
-
 pub assign-keeps : (l t x : ℕ) (m : Machine) → Keeps l m (assign t x m)
 unfolding Keeps assign funds
 assign-keeps l t x m = go (ltb t 256) refl
@@ -168,33 +146,10 @@ unfolding Keeps orStop
 stop-keeps l n (Is x) m = kept-same l m
 stop-keeps l n Failed m = kept-same l m
 
--- ---- what steps do with values
-pub assign-value-keeps : (l t : ℕ) (v : Value) (m : Machine) → Keeps l m (assignValue t v m)
-unfolding assignValue
-assign-value-keeps l t v m = keeps-after l 0 m (orStop 25 v m) _ (omega arith) (stop-keeps l 25 v m) (λ x w _. assign-keeps l t x w)
-
-pub answer-value-keeps : (l : ℕ) (v : Value) (m : Machine) → Keeps l m (answerValue v m)
-unfolding answerValue
-answer-value-keeps l v m = keeps-after l 0 m (orStop 25 v m) _ (omega arith) (stop-keeps l 25 v m) (λ x w _. answer-keeps l x w)
-
-pub pay-values-keeps : (l a : ℕ) (k v : Value) (m : Machine) → Room a m → Keeps l m (payValues a k v m)
-unfolding payValues
-pay-values-keeps l a k v m q =
-    keeps-after l a m (orStop 25 k m) _ q (stop-keeps l 25 k m)
-    (λ i w q. keeps-after l a w (orStop 25 v w) _ q (stop-keeps l 25 v w) (λ x n q. pay-keeps l a i x n q))
-
 if-keeps : (l : ℕ) (b : Bool) (n : ℕ) (m : Machine) → Keeps {A = Unit {0}} l m ((if b then skip else stop n) m)
 unfolding Keeps
 if-keeps l true n m = kept-same l m
 if-keeps l false n m = kept-same l m
-
-pub demand-value-keeps : (l i j : ℕ) (v : Value) (m : Machine) → Keeps l m (demandValue i j v m)
-unfolding demandValue
-demand-value-keeps l i j v m = keeps-after l 0 m (orStop i v m) _ (omega arith) (stop-keeps l i v m) (λ x w _. if-keeps l (isTrue x) j w)
-
-pub test-value-keeps : (l : ℕ) (v : Value) (m : Machine) → Keeps l m (testValue v m)
-unfolding testValue
-test-value-keeps l v m = keeps-after l 0 m (orStop 25 v m) _ (omega arith) (stop-keeps l 25 v m) (λ x w _. going-keeps l (isTrue x) w)
 
 -- ---- statements
 module _ (c : Setting) where

@@ -1,4 +1,4 @@
--- A run as the code has it: a machine whose arrays are lent and whose numbers go from hand to hand; and what operations ask of it.
+-- A run as the code has it, on a machine whose arrays are lent and whose numbers are passed by value; and what operations ask of it.
 use Prim.Native.Nat.{ℕ, zero, suc, _+_, _≤_, _<_}
 use mathlib.Core.Bool.{Bool, true, false}
 use mathlib.Core.List.{List}
@@ -74,7 +74,7 @@ funds m = sum (m .balances) + m .own
 abbrev pub Solvent : Machine → Type 0
 Solvent m = funds m ≤ most32
 
--- what a run of an agreement with so many accounts asks of its machine: each account has a balance, and all of it fits 32 bits
+-- what a run asks of its machine: at most 8 accounts, each with a balance, and a total that fits 32 bits
 pub record Funded (accounts : ℕ) (m : Machine) : Type 0 where
   pub few : accounts ≤ 8
   pub room : accounts ≤ length (m .balances)

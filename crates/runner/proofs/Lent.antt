@@ -2,11 +2,10 @@
 -- Assumes nothing.
 use Prim.Native.Nat.{ℕ, _+_, _*_, _≤_, _<_}
 use mathlib.Core.Path.{_≡_, refl, sym, ap, subst, _∙_}
-use mathlib.Core.Bool.{Bool, true, false, _&&_, not}
-use mathlib.Core.List.{List, [], _∷_}
+use mathlib.Core.Bool.{Bool, true, false, _&&_}
+use mathlib.Core.List.{List, []}
 use mathlib.Core.Option.{Option, none, some}
-use native.Mathlib.Omega.{arith}
-use lib.Dec.{eqb, ltb, leb}
+use lib.Dec.{eqb, leb}
 use lib.ListN.{length, getD}
 use borrow.Author.Tests.{lt-ltb, le-ltb}
 use Rattle.rules.specs.declared.Call.{Call}
@@ -17,7 +16,7 @@ use Rattle.rules.specs.declared.State.{State}
 use Rattle.rules.specs.Basics.{if_then_else_, firstOf, given, isNone, sum, most32}
 use Rattle.rules.specs.Syntax.{Agreement}
 use Rattle.rules.specs.Expanding.{Step, expansion, table}
-use Rattle.rules.specs.Accepting.{good, fileOf, onFile, refusal, tooFew}
+use Rattle.rules.specs.Accepting.{onFile, refusal, tooFew}
 use Rattle.rules.specs.Running.{Setting, Run, going, stopped}
 use Rattle.rules.specs.Calling.{End, ended, halted, leads, endsIn, openingState, noCall, total, entered, started, called, callTests, startSetting, startBy, callBy}
 use Rattle.rules.specs.Calling.{refusedStart, refusedCall}

@@ -1,14 +1,12 @@
 -- An accepted file as the functions that go by its tree have it, and what starting and calling are once their parts are known.
 -- Assumes nothing.
-use Prim.Native.Nat.{ℕ, _+_, _≤_, _<_}
+use Prim.Native.Nat.{ℕ, _+_, _≤_}
 use mathlib.Core.Path.{_≡_, refl, sym, ap, subst, _∙_}
 use mathlib.Core.Bool.{Bool, true, false, _&&_}
 use mathlib.Core.List.{List, [], _∷_}
 use mathlib.Core.Option.{Option, none, some}
 use native.Mathlib.Omega.{arith}
-use lib.Dec.{ltb, leb}
-use lib.ListN.{length, getD}
-use borrow.Author.Tests.{leb-false}
+use lib.ListN.{length}
 use Rattle.rules.specs.declared.Call.{Call}
 use Rattle.rules.specs.declared.Fields.{Fields}
 use Rattle.rules.specs.declared.Machine.{Machine}
@@ -16,10 +14,9 @@ use Rattle.rules.specs.declared.Outcome.{Outcome}
 use Rattle.rules.specs.declared.State.{State}
 use Rattle.rules.specs.Basics.{firstOf, isNone}
 use Rattle.rules.specs.Syntax.{Stmt, Transition, Agreement}
-use Rattle.rules.specs.Reading.{read}
 use Rattle.rules.specs.Accepting.{refusal}
 use Rattle.rules.specs.Running.{Setting, after, guarded, statement}
-use Rattle.rules.specs.Calling.{End, endsIn, callTests, openingState, noCall, entered, started, called, refusedCall, unfit, startSetting, callSetting, startBy, callBy}
+use Rattle.rules.specs.Calling.{End, endsIn, callTests, openingState, noCall, entered, started, called, refusedCall, startSetting, callSetting, startBy, callBy}
 use Rattle.rules.specs.Calling.{runInitial, runBy, known, transitionOf, startTree, callTree}
 use Rattle.totals.proofs.Trees.{tree-good}
 use Rattle.records.specs.Acceptance.{Good}
@@ -28,7 +25,7 @@ use Rattle.records.proofs.Parts.{from-drop}
 use Rattle.machine.specs.Calls.{Passed}
 use Rattle.machine.proofs.States.{opening-total}
 use Rattle.machine.proofs.Calls.{first-refused, tests-passed, elsewhere-refused, call-runs, Enters, enters, passed-enters}
-use Rattle.access.specs.Trees.{TreeRead, AcceptedFile}
+use Rattle.access.specs.Trees.{AcceptedFile}
 use Rattle.access.proofs.Using.{ActionAt, FoundAt}
 use Rattle.actions.specs.declared.Frame.{Frame}
 use Rattle.actions.specs.Frames.{Framed}

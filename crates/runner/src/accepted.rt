@@ -132,7 +132,7 @@ fn call_passed(file: &[u8], f: Fields, s: State, k: Call) -> Outcome
     }
 }
 
-// A call from the record s whose action ended so, in the state n.
+// The outcome of a call from the record s whose run ended with p, in the state n.
 fn ended(s: State, n: u32, variables: [u32; 16], balances: [u32; 8], p: Progress) -> Outcome
     ensures { λ r. ⌜ ((ls : List ℕ) (x : Run (Unit {0})) → flowIn variables ls balances p ≡ flowOf x → r ≡ calledOf s (endsIn n x)) ⌝ }
 {

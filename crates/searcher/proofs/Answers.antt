@@ -1,18 +1,17 @@
 -- What a verdict answers, by its tests; what its start leads to; and words that were written.
 -- Assumes nothing.
 use Prim.Native.Nat.{ℕ, zero, suc, _*_, _≤_, _<_}
-use mathlib.Core.Path.{_≡_, refl, sym, ap, subst, _∙_}
-use mathlib.Core.Bool.{true, false, _&&_}
+use mathlib.Core.Path.{_≡_, refl}
+use mathlib.Core.Bool.{true, false}
 use mathlib.Core.List.{List, [], _∷_, _++_}
 use mathlib.Core.Option.{none, some}
 use native.Mathlib.Omega.{arith}
-use lib.Dec.{eqb}
 use lib.ListN.{length, getElem?}
 use borrow.Author.Tests.{lt-ltb, le-ltb, eq-eqb}
 use Rattle.rules.specs.declared.Outcome.{Outcome}
 use Rattle.rules.specs.declared.Verdict.the-variants.{Refused}
 use Rattle.rules.specs.Basics.{firstOf, given}
-use Rattle.rules.specs.Syntax.{Rule, Agreement}
+use Rattle.rules.specs.Syntax.{Rule}
 use Rattle.rules.specs.Expanding.{expansion, table}
 use Rattle.rules.specs.Accepting.{refusal, onFile, lent, tooFew, written}
 use Rattle.rules.specs.Calling.{startTree}
@@ -22,7 +21,6 @@ use Rattle.totals.proofs.Trees.{tree-good}
 use Rattle.totals.proofs.Fitting.{fit-not-unfit, start-fit}
 use Rattle.machine.specs.Calls.{Fits}
 use Rattle.access.specs.Trees.{AcceptedFile}
-use Rattle.walker.specs.Tables.{Expanded}
 
 no-elem : {A : Type 0} (xs : List A) (i : ℕ) → length xs ≤ i → getElem? xs i ≡ none
 no-elem [] i h = refl

@@ -13,10 +13,10 @@ use lib.Seq.{take-all}
 use native.Mathlib.Omega.{arith}
 use Rattle.rules.specs.declared.State.{State}
 use Rattle.rules.specs.declared.Value.{Value}
-use Rattle.rules.specs.declared.Value.the-variants.{Is, Failed}
+use Rattle.rules.specs.declared.Value.the-variants.{Is}
 use Rattle.rules.specs.Basics.{any}
 use Rattle.rules.specs.Syntax.{Expr, constant, variable, local, argument, context, binary, not, Rule, always, notAfter, onlyAfter}
-use Rattle.rules.specs.Values.{View, both, apply, onValue, negated, evaluate}
+use Rattle.rules.specs.Values.{View, onValue, negated, evaluate}
 use Rattle.rules.specs.Judging.{Event, notTrue, violated, later, unpreceded, breaksBy}
 use Rattle.records.specs.Acceptance.{Accepted}
 use Rattle.searcher.specs.declared.Judge.{Judge}

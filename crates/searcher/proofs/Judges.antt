@@ -1,11 +1,11 @@
 -- The rule that the numbers of its record hold, and the tree of a prepared file.
 -- Assumes nothing.
-use Prim.Native.Nat.{ℕ, zero, suc, _+_, _<_, _≤_}
-use mathlib.Core.Path.{_≡_, refl, sym, ap, _∙_}
+use Prim.Native.Nat.{ℕ, zero, suc, _+_, _<_}
+use mathlib.Core.Path.{_≡_, sym, ap, _∙_}
 use mathlib.Core.List.{List, [], _∷_, map}
-use mathlib.Core.Option.{Option, none, some}
+use mathlib.Core.Option.{some}
 use native.Mathlib.Omega.{arith}
-use lib.ListN.{length, getElem?}
+use lib.ListN.{getElem?}
 use Rattle.rules.specs.Syntax.{Expr, Rule, always, notAfter, onlyAfter, Agreement}
 use Rattle.access.specs.declared.Head.{Head}
 use Rattle.access.specs.declared.Layout.{Layout}

@@ -7,8 +7,6 @@ use lib.ListN.{length, length-map}
 use mir.Syntax.{w8}
 use mir.Val.{Val}
 use denote.Laws.{Is}
-use denote.Array.{Array}
-use denote.Plain.{UInt}
 use denote.Struct.Declared as D
 use borrow.Kind.Array.{eInt, good-length}
 use Rattle.rules.specs.declared.Judged.{Judged}

@@ -19,7 +19,7 @@ use denote.Enum.Declared.{tagOf}
 use Rattle.rules.proofs.Verdict as Verdicts
 use Rattle.rules.specs.declared.Judged.{Judged}
 use Rattle.rules.specs.declared.Verdict.{Verdict}
-use Rattle.rules.specs.declared.Verdict.the-variants.{Broken, Held, Spent}
+use Rattle.rules.specs.declared.Verdict.the-variants.{Broken, Held}
 use Rattle.rules.specs.Basics.{if_then_else_, each}
 use Rattle.rules.specs.Lists.{listsOf, listsTo}
 use Rattle.rules.specs.Judging.{Ruling, broken, held, spent, First, at, nowhere, oneLater, firstOr, first, ruledBy, ruledOn, judged, judgedOf}

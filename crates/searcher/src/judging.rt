@@ -1,5 +1,5 @@
 // Judging a rule of an accepted file. For our own crates only: a caller has to see that the file was prepared, by which layout,
-// and that there is an i-th rule.
+// that there is an i-th rule, and that the record of the start fits.
 use crate::Plan;
 use crate::entries::judge_at;
 use crate::entries::lay_down_rows;

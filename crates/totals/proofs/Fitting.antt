@@ -121,13 +121,6 @@ tested f s k b e =
     let p = none-passed (callTests f s k [] b) e in
     (leb-false (f .accounts) (k .sender) (p .0), p .1 .0, ltb-false (getD (s .balances) (k .sender) 0) (k .coins) (p .1 .1 .0))
 
--- so a call is completed only from a record that is not unfit
-tree-not-unfit : (a : Agreement) (s : State) (k : Call) → isCompleted (callTree a s k .answer) ≡ true → unfit (a .fields) s ≡ false
-unfolding callTree callBy refusedCall isCompleted
-tree-not-unfit a s k =
-    given-case (λ (o : Outcome). isCompleted (o .answer) ≡ true → unfit (a .fields) s ≡ false) _ (λ n c. clash (sym c))
-    (λ _ e _. tested (a .fields) s k _ e .1)
-
 called-kept : (f : Fields) (s : State) {e : End} → Leads (Kept f s) e → Kept f s (called s e .state)
 unfolding called refusedCall
 called-kept f s (ends h) = h
@@ -238,14 +231,6 @@ module _ (file : List ℕ) (a : Agreement) (e : fileOf file ≡ good a) where
       let g = tree-good file a e .tree in
       let q = g .fields .few-accounts in
       rw e (call-tree-kept a g s k (omega arith))
-
-  -- a call is completed only from a fit record, and leads to one
-  pub call-fit : (s : State) (k : Call) → length (s .variables) ≡ 16 → length (s .balances) ≡ 8
-      → isCompleted (call file s k .answer) ≡ true → Fit (a .fields) s × Fit (a .fields) (call file s k .state)
-  unfolding call onFile
-  call-fit s k v b c =
-      let h = not-unfit-fit (a .fields) s v b (tree-not-unfit a s k (rw e at c)) in
-      (h, fit-kept (a .fields) s _ (call-kept s k (omega arith)) h)
 
   -- what all fit records have, the records of a list of calls have
   module _ {P : State → Type 0} (of-fit : (s : State) → Fit (a .fields) s → P s) where

@@ -5,16 +5,14 @@ use mathlib.Core.Path.{_≡_, refl, ap, subst, _∙_}
 use mathlib.Core.Bool.{Bool, true, false}
 use mathlib.Core.List.{List, [], _∷_, _++_}
 use mathlib.Core.Logic.{_≢_}
-use mathlib.Core.Option.{Option, none, some}
+use mathlib.Core.Option.{none}
 use native.Mathlib.Omega.{arith}
 use lib.Dec.{ltb}
 use lib.ListN.{length, drop, length-append}
 use borrow.Author.Tests.{ltb-true, ltb-false}
-use Rattle.rules.specs.Basics.{if_then_else_, given, sum, most32}
 use Rattle.rules.specs.Syntax.{Transition, Agreement}
-use Rattle.rules.specs.Reading.{Reading, refused, read, readTree}
 use Rattle.rules.specs.Expanding.{Step, made, expand, expandTransitions, expansion}
-use Rattle.rules.specs.Accepting.{bad, good, refusalAt, firstRepeat, sized, accept, accepted, fileOf}
+use Rattle.rules.specs.Accepting.{good, fileOf}
 use Rattle.rules.specs.Demands.{All}
 use Rattle.records.proofs.StepCounts.{expand-length}
 use Rattle.forms.proofs.Accepted.{Sound, file-good}

@@ -12,7 +12,7 @@ use Rattle.rules.specs.declared.Fields.{Fields}
 use Rattle.rules.specs.declared.Machine.{Machine}
 use Rattle.rules.specs.Basics.{if_then_else_, choose}
 use Rattle.rules.specs.Syntax.{Expr, Simple}
-use Rattle.rules.specs.Expanding.{Step, fallbackEntry}
+use Rattle.rules.specs.Expanding.{Step}
 use Rattle.rules.specs.Running.{Setting, Run, going, returned, stopped, perform, condition, guarded}
 use Rattle.rules.specs.Calling.{End, ended, halted, leads}
 use Rattle.rules.specs.Stepping.{Records, leaving, stepFrom, targetIn, with, onward, admitted, decided, performed, advance, taken, walk, walkFrom, walkBy}
@@ -52,22 +52,6 @@ pub reached-goes : (e : End) (r : Reached) → r ≡ reachedOf e → isGoing (r 
 unfolding reachedOf
 reached-goes (ended n m) r e h = rw e
 reached-goes (halted k m) r e h = absurd (false≢true (how-of e h))
-
-ending : {r s : Reached} → r ≡ s → {h : How} → r .flow .how ≡ h → s .flow .how ≡ h
-ending e h = sym (ap (λ (x : Reached). x .flow .how) e) ∙ h
-
-pub reached-halted : (e : End) (r : Reached) {k : ℕ} → r ≡ reachedOf e → r .flow .how ≡ Stopped k → e ≡ halted k (r .flow .machine)
-unfolding reachedOf
-reached-halted (ended n m) r {k} e h = let q : Going ≡ Stopped k = ending e h in absurd (let z : _≡_ {A = ℕ} 0 1 = cc in omega arith)
-reached-halted (halted i m) r {k} e h =
-    let q : Stopped i ≡ Stopped k = ending e h in
-    let z : i ≡ k = cc in
-    rw (e, z)
-
-pub never-returned : (e : End) (r : Reached) → r ≡ reachedOf e → r .flow .how ≡ Returned → ⊥
-unfolding reachedOf
-never-returned (ended n m) r e h = let q : Going ≡ Returned = ending e h in let z : _≡_ {A = ℕ} 0 1 = cc in omega arith
-never-returned (halted k m) r e h = let q : Stopped k ≡ Returned = ending e h in let z : _≡_ {A = ℕ} 0 1 = cc in omega arith
 
 pub reached-stops : (e : End) (r : Reached) (g : ℕ → Machine → End) → r ≡ reachedOf e → isGoing (r .flow .how) ≡ false → r ≡ reachedOf (onward g e)
 unfolding reachedOf onward
@@ -244,11 +228,6 @@ module _ (c : Setting) where
         → r ≡ reachedOf (advance records f steps c s m) → isGoing (r .flow .how) ≡ false → r ≡ reachedOf (walkFrom records f steps c n m)
     unfolding walkFrom walk taken
     walk-stops n m s h e i g = rw (lt-leb n (f .states) h, e) (reached-stops _ _ _ i g)
-
-    -- no kind 1 step has the name
-    pub by-none : (m : Machine) → walkBy records f steps c none m ≡ walkFrom records f steps c (fallbackEntry f) m
-    unfolding walkBy
-    by-none m = refl
 
     -- by the kind 1 step, and then from where it leads
     pub by-stops : (s : Step) (m : Machine) {r : Reached} → r ≡ reachedOf (admitted records f steps c s m) → isGoing (r .flow .how) ≡ false

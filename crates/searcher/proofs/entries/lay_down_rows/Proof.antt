@@ -1,11 +1,7 @@
 -- The rows before the i-th are laid down.
 use Prim.Native.Nat.{ℕ, _-_, _<_, _≤_}
-use mathlib.Core.Path.{_≡_, refl, sym, subst, subst⁻¹}
-use native.Mathlib.Decide.{decLt}
 use native.Mathlib.Omega.{arith}
-use borrow.Author.Needs.{needs}
 use lib.ListN.{getD}
-use Rattle.rules.specs.declared.Call.{Call}
 use Rattle.rules.specs.Calling.{noCall}
 use Rattle.access.specs.Trees.{TreeRead}
 use Rattle.searcher.specs.Searching.{LaidDown}
