@@ -2,11 +2,15 @@
 -- Assumes nothing.
 use Prim.Native.Nat.{ℕ, _+_, _*_, _≤_, _<_}
 use mathlib.Core.Path.{_≡_, refl, sym, ap, subst, _∙_}
+use mathlib.Core.Logic.{inl, inr}
 use mathlib.Core.Bool.{Bool, true, false, _&&_}
-use mathlib.Core.List.{List, []}
+use mathlib.Core.List.{List, [], _∷_}
 use mathlib.Core.Option.{Option, none, some}
+use native.Mathlib.Omega.{arith}
 use lib.Dec.{eqb, leb}
 use lib.ListN.{length, getD}
+use types.Run.{OneOf}
+use denote.Enum.Declared.{tagOf}
 use borrow.Author.Tests.{lt-ltb, le-ltb}
 use Rattle.rules.specs.declared.Call.{Call}
 use Rattle.rules.specs.declared.Fields.{Fields}
@@ -27,7 +31,10 @@ use Rattle.machine.specs.Calls.{stateOf, Passed}
 use Rattle.machine.proofs.Calls.{sender-refused, lent-refused, Enters}
 use Rattle.access.specs.Trees.{AcceptedFile}
 use Rattle.access.proofs.Using.{same-accepted}
-use Rattle.walker.specs.Tables.{Expanded, Tabled, Listed, Entered}
+use Rattle.walker.proofs.Entry as Entries
+use Rattle.walker.specs.declared.Entry.{Entry}
+use Rattle.walker.specs.declared.Entry.the-variants.{Unknown, Elsewhere, At}
+use Rattle.walker.specs.Tables.{Expanded, Tabled, Listed, Entered, EntryFound}
 use Rattle.walker.specs.Runs.{Reached, reachedOf, Walkable, walkIn, walkByIn}
 use Rattle.runner.specs.declared.Prepared.{Prepared}
 use Rattle.runner.specs.Tables.{Walks, Ready, startIn, callIn}
@@ -116,19 +123,34 @@ module _ (file : List ℕ) (a : Agreement) (s : State) (k : Call) where
     unfolding isNone
     steps-elsewhere u v = call-elsewhere is s k _ runs steps-call p (rw (u, v))
 
-    pub steps-unknown :
-        known ≡ false → entry ≡ none → {m : Machine} → m ≡ entered k s →
-        called s (settled setting (walkIn file a setting (f .states + 1) m)) ≡ callIn file a s k
-    unfolding walkBy
-    steps-unknown u v {m} h =
-        ap (λ (g : Fields). called s (settled setting (walkIn file a setting (g .states + 1) m))) is
-        ∙ ap (λ (e : Option Step). called s (settled setting (walkByIn file a setting e m))) (sym v) ∙ call-run is s k _ runs steps-call p (rw u) h
+    pub steps-run : (known && isNone entry) ≡ false → called s (settled setting (walkByIn file a setting entry (entered k s))) ≡ callIn file a s k
+    steps-run u = call-run is s k _ runs steps-call p u refl
 
-    pub steps-found :
-        (t : Step) → entry ≡ some t → {m : Machine} → m ≡ entered k s → called s (settled setting (walkByIn file a setting (some t) m)) ≡ callIn file a s k
-    unfolding isNone
-    steps-found t v {m} h =
-        ap (λ (e : Option Step). called s (settled setting (walkByIn file a setting e m))) (sym v) ∙ call-run is s k _ runs steps-call p (rw v (no-and known)) h
+-- what is found of a name, by its tag: no step, or not that the name is elsewhere
+module _ (steps : List Step) (name state : ℕ) where
+  pub no-step : (e : Entry) → OneOf (0 ∷ 1 ∷ []) (tagOf Entries.the-type e) → EntryFound steps name state e → entryOf steps name state ≡ none
+  no-step Unknown h x = x .1
+  no-step Elsewhere h x = x .1
+  no-step (At i) (inl h) x = absurd (omega arith)
+  no-step (At i) (inr h) x = absurd (omega arith)
+
+  pub not-elsewhere :
+      (e : Entry) → OneOf (0 ∷ 2 ∷ []) (tagOf Entries.the-type e) → EntryFound steps name state e → (entryKnown steps name && isNone (entryOf steps name state)) ≡ false
+  unfolding isNone
+  not-elsewhere Unknown h x = rw (x .0)
+  not-elsewhere (At i) h x = rw (x .2) (no-and (entryKnown steps name))
+  not-elsewhere Elsewhere (inl h) x = absurd (omega arith)
+  not-elsewhere Elsewhere (inr h) x = absurd (omega arith)
+
+-- the run from what was found; where it is no step, that from the fallback's entry
+module _ (file : List ℕ) (a : Agreement) (c : Setting) {o : Option Step} {m n : Machine} {r : Reached} where
+  pub from-step : (t : Step) → r ≡ reachedOf (walkByIn file a c (some t) m) → o ≡ some t → m ≡ n → r ≡ reachedOf (walkByIn file a c o n)
+  from-step t h i j = rw (i, ← j) h
+
+  pub from-fallback :
+      c .fields ≡ a .fields → r ≡ reachedOf (walkIn file a c (c .fields .states + 1) m) → o ≡ none → m ≡ n → r ≡ reachedOf (walkByIn file a c o n)
+  unfolding walkBy
+  from-fallback is h i j = rw (i, ← j) (h ∙ ap (λ (f : Fields). reachedOf (walkIn file a c (f .states + 1) m)) is)
 
 -- ---- the tests of lent words
 

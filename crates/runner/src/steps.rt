@@ -18,16 +18,22 @@ use rules::Call;
 use rules::Fields;
 use rules::Outcome;
 use rules::State;
+use walker::Arrival;
 use walker::Entry;
 use walker::lookup::find_entry;
 use walker::walk::enter;
 use walker::walk::walk;
+ghost use Prim.Native.Nat.{ℕ};
+ghost use mathlib.Core.List.{List};
 ghost use mathlib.Core.Path.{_≡_};
 ghost use lib.Dec.{eqb};
-ghost use lib.ListN.{length};
 ghost use Rattle.rules.specs.Basics.{if_then_else_};
+ghost use Rattle.rules.specs.Expanding.{expansion};
+ghost use Rattle.rules.specs.Calling.{entered as enteredOf};
+ghost use Rattle.rules.specs.Stepping.{entryOf};
 ghost use Rattle.machine.specs.Calls.{stateOf, outcomeIn, Passed, Fits};
-ghost use Rattle.walker.specs.Tables.{Expanded};
+ghost use Rattle.walker.specs.Tables.{Expanded, EntryFound};
+ghost use Rattle.walker.specs.Runs.{reachedIn, reachedOf, walkByIn};
 ghost use Rattle.runner.specs.Tables.{Walks, Ready, startIn, callIn};
 
 // The node that a run has reached becomes the state; the fallback's end, which is S, keeps the state of before.
@@ -102,8 +108,8 @@ pub fn call_prepared(
     gathered(c, variables, balances)
 }
 
-// A call on a record that is known to fit, as every record is that starting and calling have led to: it is not tested for refusal 20
-// anew. The record's arrays are lent; a refused call leaves them as they were.
+// A call on a record that is known to fit, as is every record that a completed start and calls after it lead to: it is not tested
+// for refusal 20 again. The record's arrays are lent; a refused call leaves them as they were.
 pub fn call_fitting(
     file: &[u8],
     words: &[u32],
@@ -139,7 +145,7 @@ pub fn call_fitting(
     call_passed(file, words, nodes, places, p, s, variables, balances, k)
 }
 
-// Refusal 22, or the run from the fallback's entry, or the run from the guard's step. The lent arrays are those of the record.
+// Refusal 22, or the run from what was found of the name. The lent arrays are those of the record.
 fn call_passed(
     file: &[u8],
     words: &[u32],
@@ -152,53 +158,72 @@ fn call_passed(
     k: Call,
 ) -> Called
     requires { ⌜ Ready (now file) (now words) (now nodes) (now places) p × Passed (p .fields) s k
-        × (length (s .balances) ≡ 8) × (now variables ≡ s .variables) × (now balances ≡ s .balances) ⌝ }
+        × (now variables ≡ s .variables) × (now balances ≡ s .balances) ⌝ }
     ensures { λ r. ⌜ ((a : Expanded (now (file .entry)) (now (words .entry))) → outcomeIn (now (variables .exit)) (now (balances .exit)) r
         ≡ callIn (now (file .entry)) (a .tree) s k) ⌝ }
 {
     let f = p.fields;
+    let e = find_entry(words, places, p.entries, k.name, s.state);
+    match e {
+        Entry::Elsewhere => unmoved(22, s.state, s.own),
+        _ => {
+            let r = run(file, words, nodes, f, e, s, variables, balances, k);
+            let states = f.states as u32;
+            let q = r.progress;
+            called(s, settle(states, s.state, r.node), variables, balances, q)
+        }
+    }
+}
+
+// The run of a call: from the guard's step where one was found, else from the fallback's entry.
+fn run(
+    file: &[u8],
+    words: &[u32],
+    nodes: &[u32; 1091],
+    f: Fields,
+    e: Entry,
+    s: State,
+    variables: &mut [u32; 16],
+    balances: &mut [u32; 8],
+    k: Call,
+) -> Arrival
+    requires { ⌜ Walks (now file) (now words) (now nodes) f × Passed f s k × (now variables ≡ s .variables) × (now balances ≡ s .balances)
+        × ((a : Expanded (now file) (now words)) → EntryFound (expansion (a .tree)) (k .name) (s .state) e) ⌝ }
+    ensures { λ r. ⌜ ((a : Expanded (now (file .entry)) (now (words .entry))) → (ls : List ℕ) × (reachedIn (now (variables .exit)) ls (now (balances .exit)) r
+        ≡ reachedOf (walkByIn (now (file .entry)) (a .tree) (record { fields = f; before = s .state; call = k })
+        (entryOf (expansion (a .tree)) (k .name) (s .state)) (enteredOf k s)))) ⌝ }
+{
+    let n = entered(k, s.own, balances);
+    let mut locals = [0u32; 8];
     let frame = frame_of(f, s.state, k);
     let arguments = k.arguments;
     let states = f.states as u32;
-    match find_entry(words, places, p.entries, k.name, s.state) {
-        Entry::Elsewhere => unmoved(22, s.state, s.own),
-        Entry::Unknown => {
-            let n = entered(k, s.own, balances);
-            let mut locals = [0u32; 8];
-            let r = walk(
-                file,
-                words,
-                nodes,
-                states,
-                states + 1,
-                variables,
-                &mut locals,
-                balances,
-                n,
-                frame,
-                &arguments,
-            );
-            let q = r.progress;
-            called(s, settle(states, s.state, r.node), variables, balances, q)
-        }
-        Entry::At(i) => {
-            let n = entered(k, s.own, balances);
-            let mut locals = [0u32; 8];
-            let r = enter(
-                file,
-                words,
-                nodes,
-                states,
-                i,
-                variables,
-                &mut locals,
-                balances,
-                n,
-                frame,
-                &arguments,
-            );
-            let q = r.progress;
-            called(s, settle(states, s.state, r.node), variables, balances, q)
-        }
+    match e {
+        Entry::At(i) => enter(
+            file,
+            words,
+            nodes,
+            states,
+            i,
+            variables,
+            &mut locals,
+            balances,
+            n,
+            frame,
+            &arguments,
+        ),
+        _ => walk(
+            file,
+            words,
+            nodes,
+            states,
+            states + 1,
+            variables,
+            &mut locals,
+            balances,
+            n,
+            frame,
+            &arguments,
+        ),
     }
 }

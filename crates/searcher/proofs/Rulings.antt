@@ -39,17 +39,6 @@ continued-twice n m l k (broken i j) = let z : n + (m + i) ≡ n + m + i = omega
 continued-twice n m l k (held i) = ap held (omega arith)
 continued-twice n m l k (spent i) = ap spent (omega arith)
 
--- a held verdict shows no rows
-pub held-anywhere : (n m : ℕ) (l k : List ℕ) (f : Judged) (v : Ruling) → f ≡ judgedOf (continued n l v) → f .verdict ≡ Held m → f ≡ judgedOf (continued n k v)
-unfolding continued judgedOf judged
-held-anywhere n m l k f (broken i j) e h = absurd (let z : _≡_ {A = ℕ} 0 1 = cc in omega arith)
-held-anywhere n m l k f (held i) e h = e
-held-anywhere n m l k f (spent i) e h = absurd (let z : _≡_ {A = ℕ} 0 1 = cc in omega arith)
-
-pub held-alike : (n m : ℕ) (l k : List ℕ) (f g : Judged) (v : Ruling) → f ≡ judgedOf (continued n l v) → g ≡ judgedOf (continued n k v)
-    → g .verdict ≡ Held m → f .verdict ≡ Held m
-held-alike n m l k f g v p q h = ap (λ (f : Judged). f .verdict) (p ∙ sym (held-anywhere n m k l g v q h)) ∙ h
-
 -- ---- a ruling, list by list
 
 module _ (p : List ℕ → Bool) where

@@ -1,4 +1,5 @@
-// The search over lists of call rows. For our own crates only: a caller has to see what it goes by.
+// The search over lists of call rows. For our own crates only: a caller has to see what it goes by, and that the record it begins
+// with fits.
 use crate::Plan;
 use crate::Position;
 use crate::Status;
@@ -11,7 +12,7 @@ use rules::Verdict;
 use runner::steps::call_fitting;
 ghost use mathlib.Core.Path.{_≡_};
 ghost use mathlib.Core.Bool.{Bool};
-ghost use mathlib.Core.List.{List, [], _∷_, _++_};
+ghost use mathlib.Core.List.{List, [], _∷_, _++_, map};
 ghost use Prim.Native.Nat.{ℕ, _+_, _-_, _<_, _≤_};
 ghost use lib.ListN.{replicate};
 ghost use Rattle.rules.specs.Lists.{listsOf, listsTo};
@@ -44,7 +45,7 @@ fn ended(broken: bool, length: u8, tried: u32, bound: u32) -> Judged
     unshown(Verdict::Held(tried + 1))
 }
 
-// The row at a position of the list that a verdict shows, where it had a zero.
+// Puts a row at its position in the list that a verdict shows, where a zero stood.
 fn with_row(f: Judged, at: u8, row: u8) -> Judged
     requires { ⌜ at < 8 ⌝ }
     ensures { λ r. ⌜ ((n : ℕ) (v : Ruling) → f ≡ judgedOf (continued n (replicate (at + 1) 0) v) →
@@ -151,9 +152,7 @@ fn extend(
     let mut n = tried;
     let mut row: u8 = 0;
     while row < plan.count {
-        let mut v = *variables;
-        let mut b = *balances;
-        let next = called(
+        let f = extend_by(
             file,
             words,
             nodes,
@@ -161,32 +160,74 @@ fn extend(
             calls,
             plan,
             position,
-            &mut v,
-            &mut b,
-            row,
-        );
-        let f = extend(
-            file,
-            words,
-            nodes,
-            entries,
-            calls,
-            plan,
-            next,
-            &v,
-            &b,
-            at + 1,
+            variables,
+            balances,
+            at,
             left - 1,
             n,
+            row,
         );
         let verdict = f.verdict;
         let Verdict::Held(m) = verdict else {
-            return with_row(f, at, row);
+            return f;
         };
         n = m;
         row += 1;
     }
     unshown(Verdict::Held(n))
+}
+
+// Tries every list that begins with the `at` rows that led to this position and then this row, and has `left` more after it.
+fn extend_by(
+    file: &[u8],
+    words: &[u32],
+    nodes: &[u32; 1091],
+    entries: &[u32; 1024],
+    calls: &[u32; 112],
+    plan: Plan,
+    position: Position,
+    variables: &[u32; 16],
+    balances: &[u32; 8],
+    at: u8,
+    left: usize,
+    tried: u32,
+    row: u8,
+) -> Judged
+    requires { ⌜ Planned (now file) (now words) (now nodes) (now entries) (now calls) plan × (row < plan .count)
+        × Fits (plan .prepared .fields) (runOf position (now variables) (now balances) .state) × (at + 1 + left ≤ 8) ⌝ }
+    ensures { λ r. ⌜ ((g : Planned (now (file .entry)) (now (words .entry)) (now (nodes .entry)) (now (entries .entry)) (now (calls .entry)) plan) →
+        r ≡ judgedOf (continued tried (replicate at 0) (ruledOn (plan .bound - tried)
+        (breaksIn g (runOf position (now (variables .entry)) (now (balances .entry)))) (map (λ l. row ∷ l) (listsOf (plan .count) left))))) ⌝ }
+{
+    let mut v = *variables;
+    let mut b = *balances;
+    let next = called(
+        file,
+        words,
+        nodes,
+        entries,
+        calls,
+        plan,
+        position,
+        &mut v,
+        &mut b,
+        row,
+    );
+    let f = extend(
+        file,
+        words,
+        nodes,
+        entries,
+        calls,
+        plan,
+        next,
+        &v,
+        &b,
+        at + 1,
+        left,
+        tried,
+    );
+    with_row(f, at, row)
 }
 
 // Tries the lists by length, up to the depth, from the state that the start led to.

@@ -69,7 +69,7 @@ call-passed-requires c κs =
     let i = c .before .before .before .before in
     let e = i .before .before .before .before in
     let s = start (e .before) in
-    (s .pre .0, record { account = account e; fits = s .pre .1 .fits; paid = le-ltb _ _ (i .if2 .left) }, s .pre .1 .eight, refl, refl)
+    (s .pre .0, record { account = account e; fits = s .pre .1 .fits; paid = le-ltb _ _ (i .if2 .left) }, refl, refl)
 
 pub call-fitting-spec : {M : Type 1} → statement M
 call-fitting-spec =

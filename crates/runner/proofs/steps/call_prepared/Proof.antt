@@ -3,7 +3,6 @@ use mathlib.Core.Path.{refl, _∙_}
 use native.Mathlib.Omega.{arith}
 use borrow.Author.Needs.{needs}
 use Rattle.machine.proofs.Calls.{first-passed, numbered-some, numbered-none}
-use Rattle.machine.proofs.Lengths.{state-lengths}
 use Rattle.runner.proofs.Runs.{accounts-few, call-refused}
 use Rattle.runner.proofs.Lent.{file-of, fields-of, steps-call}
 use Rattle.runner.proofs.steps.call_prepared.Statement.{statement}
@@ -27,7 +26,7 @@ call-passed-requires c κs =
     let r = i .before in
     let s = r .before .before .before .before in
     let passed = first-passed _ _ _ (r .first-refusal .ensures ∙ numbered-none (r .first-refusal .result) (omega (arith, i .if1 .left))) in
-    (s .pre, passed, state-lengths (s .args .s) _ (s .good .1 .1 .1 .1 .1 .0) .1, refl, refl)
+    (s .pre, passed, refl, refl)
 
 returns-2 : tie.Need-returns-2
 returns-2 c = λ a. c .gathered .ensures ∙ c .before .call-passed .ensures a
