@@ -76,7 +76,9 @@ pub by-reached :
     (g : End → Outcome) (c : Setting) (e : End) {r : Reached} {n : ℕ} {o : Outcome} → r ≡ reachedOf e → n ≡ (if eqb (r .node) (c .fields .states) then c .before else r .node) →
     ((x : Run (Unit {0})) → r .flow ≡ flowOf x → o ≡ g (endsIn n x)) → o ≡ g (settled c e)
 unfolding reachedOf settled endsIn leads flowOf
-by-reached g c (ended n m) h i k = k (going tt m) (ap (λ (r : Reached). r .flow) h) ∙ ap (λ (z : ℕ). g (ended z m)) (i ∙ ap (λ (r : Reached). if eqb (r .node) (c .fields .states) then c .before else r .node) h)
+by-reached g c (ended n m) h i k =
+    k (going tt m) (ap (λ (r : Reached). r .flow) h)
+    ∙ ap (λ (z : ℕ). g (ended z m)) (i ∙ ap (λ (r : Reached). if eqb (r .node) (c .fields .states) then c .before else r .node) h)
 by-reached g c (halted j m) h i k = k (stopped j m) (ap (λ (r : Reached). r .flow) h)
 
 -- ---- what a run enters with

@@ -59,7 +59,9 @@ loop-again c =
       omega arith,
       omega arith,
       omega (arith, l .loop .inv .2, q .1),
-      subst (λ (t : List ℕ). Put (a .at) t (now (a .text)) (p .put-spaced .last .0) (p .put-spaced .result)) e (then-put (l .loop .inv .3) (subst (λ (x : ℕ). Put (l .loop .next) (spaced x) (l .loop .text) (p .put-spaced .last .0) (p .put-spaced .result)) (p .before .wide .ensures) (q .0))),
+      subst (λ (t : List ℕ). Put (a .at) t (now (a .text)) (p .put-spaced .last .0) (p .put-spaced .result)) e
+          (then-put (l .loop .inv .3)
+          (subst (λ (x : ℕ). Put (l .loop .next) (spaced x) (l .loop .text) (p .put-spaced .last .0) (p .put-spaced .result)) (p .before .wide .ensures) (q .0))),
     )
 
 same-length-2 : tie.Need-same-length-2 Inv-loop μ-loop

@@ -46,7 +46,8 @@ put-requires : tie.Need-put-requires Inv-loop μ-loop
 put-requires c κs =
     let l = c .before .before .before .before .before in
     let s = l .before .before in
-    let e = left-one (s .args .n) (l .loop .i) (l .loop .m) (c .before .before .before .digit2 .result) (l .loop .inv .0) (omega arith) (c .before .before .before .digit2 .ensures) (l .loop .inv .1) in
+    let e =
+    left-one (s .args .n) (l .loop .i) (l .loop .m) (c .before .before .before .digit2 .result) (l .loop .inv .0) (omega arith) (c .before .before .before .digit2 .ensures) (l .loop .inv .1) in
     omega (arith, ap length e, decimal-short (s .args .n), s .pre)
 
 same-length : tie.Need-same-length Inv-loop μ-loop
@@ -58,7 +59,9 @@ returns c =
     let l = p .before .before .before .before .before .before in
     let s = l .before .before in
     let a = s .args in
-    let e = left-one (a .n) (l .loop .i) (l .loop .m) (p .before .before .before .before .digit2 .result) (l .loop .inv .0) (omega arith) (p .before .before .before .before .digit2 .ensures) (l .loop .inv .1) in
+    let e =
+    left-one (a .n) (l .loop .i) (l .loop .m) (p .before .before .before .before .digit2 .result) (l .loop .inv .0) (omega arith)
+    (p .before .before .before .before .digit2 .ensures) (l .loop .inv .1) in
     subst (λ (t : List ℕ). Put (a .at) t (now (a .text)) (p .put .last .0) (p .put .result)) e (p .put .ensures)
 
 pub put-number-spec : {M : Type 1} → statement M

@@ -25,7 +25,8 @@ returns c = λ a.
     let s = i .before .before .before .before in
     let n = i .before .first-refusal .result in
     rw (c .refused-call .ensures, c .before .refusal .ensures)
-    (call-refused (fields-are (i .before .before) a) (s .args .s) (s .args .k) _ _ (tree-call (a .tree) (s .args .s) (s .args .k)) n (i .before .first-refusal .ensures ∙ numbered-some n (i .if1 .taken)))
+    (call-refused (fields-are (i .before .before) a) (s .args .s) (s .args .k) _ _ (tree-call (a .tree) (s .args .s) (s .args .k)) n
+    (i .before .first-refusal .ensures ∙ numbered-some n (i .if1 .taken)))
 
 call-passed-requires : tie.Need-call-passed-requires
 call-passed-requires c κs =

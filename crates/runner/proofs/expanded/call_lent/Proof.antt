@@ -26,7 +26,8 @@ returns : tie.Need-returns
 returns c =
     let s = c .before .before .before .before .before .before .before in
     rw (c .refused-call .ensures, c .before .refusal .ensures)
-    (lent-sender _ _ (s .pre .0) (s .args .s) (s .args .k) (fields-are (c .before .before .before .before)) (sym (c .before .before .before .is-unknown-sender .ensures) ∙ c .before .before .if1 .taken))
+    (lent-sender _ _ (s .pre .0) (s .args .s) (s .args .k) (fields-are (c .before .before .before .before))
+    (sym (c .before .before .before .is-unknown-sender .ensures) ∙ c .before .before .if1 .taken))
 
 account : (c : tie.Else1) → leb (c .before .before .fields .result .accounts) (c .before .before .before .before .before .args .k .sender) ≡ false
 account c = sym (c .before .is-unknown-sender .ensures) ∙ c .if1 .left
@@ -38,7 +39,8 @@ returns-2 : tie.Need-returns-2
 returns-2 c =
     let s = c .before .before .before .before .before .before .before .before in
     rw (c .refused-call2 .ensures, c .before .refusal2 .ensures)
-    (lent-words _ _ (s .pre .0) (s .args .s) (s .args .k) (fields-are (c .before .before .before .before .before)) (account (c .before .before .before)) 11 (few-tested _ (now (s .args .words)) (s .pre .0) (omega (arith, c .before .before .if2 .taken, s .pre .1))))
+    (lent-words _ _ (s .pre .0) (s .args .s) (s .args .k) (fields-are (c .before .before .before .before .before)) (account (c .before .before .before)) 11
+    (few-tested _ (now (s .args .words)) (s .pre .0) (omega (arith, c .before .before .if2 .taken, s .pre .1))))
 
 enough : (c : tie.Else2) → 5 * length (expansion (c .before .before .before .before .before .before .pre .0 .tree)) ≤ length (now (c .before .before .before .before .before .before .args .words))
 enough c = omega (arith, c .if2 .left, c .before .before .before .before .before .before .pre .1)
@@ -47,10 +49,15 @@ returns-3 : tie.Need-returns-3
 returns-3 c =
     let s = c .before .before .before .before .before .before .before .before .before .before in
     rw (c .refused-call3 .ensures, c .before .refusal3 .ensures)
-    (lent-words _ _ (s .pre .0) (s .args .s) (s .args .k) (fields-are (c .before .before .before .before .before .before .before)) (account (c .before .before .before .before .before)) 12 (other-tested _ _ (s .pre .0) (enough (c .before .before .before .before)) (sym (c .before .before .before .is-expansion .ensures (s .pre .0)) ∙ not-true _ (c .before .before .if3 .taken))))
+    (lent-words _ _ (s .pre .0) (s .args .s) (s .args .k) (fields-are (c .before .before .before .before .before .before .before))
+    (account (c .before .before .before .before .before)) 12
+    (other-tested _ _ (s .pre .0) (enough (c .before .before .before .before))
+    (sym (c .before .before .before .is-expansion .ensures (s .pre .0)) ∙ not-true _ (c .before .before .if3 .taken))))
 
 -- the words begin with the expansion
-abbrev expanded : (c : tie.Else3) → Expanded (now (c .before .before .before .before .before .before .before .before .args .file)) (now (c .before .before .before .before .before .before .before .before .args .words))
+abbrev expanded : (c : tie.Else3) →
+    Expanded (now (c .before .before .before .before .before .before .before .before .args .file))
+    (now (c .before .before .before .before .before .before .before .before .args .words))
 expanded c =
     let a = c .before .before .before .before .before .before .before .before .pre .0 in
     record { tree = a .tree; is = a .is; begins = sym (c .before .is-expansion .ensures a) ∙ not-false _ (c .if3 .left) }
@@ -66,7 +73,11 @@ call-prepared-requires c κs =
     let e = expanded (c .before .before .before .before .before) in
     let n = c .before .before .before .before .before .before .before .before .before .before .before .before .before .pre .1 in
     record {
-      walks = record { expanded = e; indexed = c .before .before .before .before .index-nodes .ensures _ e n; fields = fields-are (c .before .before .before .before .before .before .before .before .before .before) };
+      walks = record {
+        expanded = e;
+        indexed = c .before .before .before .before .index-nodes .ensures _ e n;
+        fields = fields-are (c .before .before .before .before .before .before .before .before .before .before);
+      };
       entered = c .before .before .before .index-entries .ensures _ e n;
     }
 

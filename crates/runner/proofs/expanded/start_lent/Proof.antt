@@ -30,7 +30,9 @@ returns-2 : tie.Need-returns-2
 returns-2 c =
     let s = c .before .before .before .before .before .before .before in
     rw (c .refused-start2 .ensures, c .before .refusal2 .ensures)
-    (start-refused _ _ (s .pre .0) 12 (other-tested _ _ (s .pre .0) (enough (c .before .before .before .before)) (sym (c .before .before .before .is-expansion .ensures (s .pre .0)) ∙ not-true _ (c .before .before .if2 .taken))))
+    (start-refused _ _ (s .pre .0) 12
+    (other-tested _ _ (s .pre .0) (enough (c .before .before .before .before))
+    (sym (c .before .before .before .is-expansion .ensures (s .pre .0)) ∙ not-true _ (c .before .before .if2 .taken))))
 
 -- the words begin with the expansion
 abbrev expanded : (c : tie.Else2) → Expanded (now (c .before .before .before .before .before .args .file)) (now (c .before .before .before .before .before .args .words))

@@ -14,7 +14,9 @@ returns : tie.Need-returns
 returns c =
     let s = c .before .before .before .before .before .before .before .before .before in
     let k : Call = record { name = s .args .name; sender = s .args .sender; coins = s .args .coins; arguments = now (s .args .arguments) } in
-    let e = c .before .before .before .call-expanded .ensures ∙ ap (λ (t : State). callExpanded (now (s .args .file)) (now (s .args .words)) t k) (c .before .before .before .before .state-from .ensures) in
+    let e =
+    c .before .before .before .call-expanded .ensures
+    ∙ ap (λ (t : State). callExpanded (now (s .args .file)) (now (s .args .words)) t k) (c .before .before .before .before .state-from .ensures) in
     record {
       state-is = c .before .state-words .ensures ∙ ap (λ (o : Outcome). stateNumbers (o .state)) e;
       answer-is = c .answer-words .ensures ∙ ap (λ (o : Outcome). answerNumbers (o .answer)) e;

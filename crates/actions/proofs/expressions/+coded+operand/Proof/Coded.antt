@@ -23,8 +23,18 @@ use Rattle.records.proofs.bytes.u16_at.Reads as u16-at-reads
 use Rattle.actions.proofs.expressions.+coded+operand.Proof.Measures.{coded-at, operand-below}
 
 abbrev calls : ℕ → lts.Claims
-calls t =
-    (u16-at-reads.Asked, u16-at-reads.Learnt, operand-below t, operand-reads.Post, both-reads.Asked, both-reads.Learnt, negation-reads.Asked, negation-reads.Learnt, leaf-reads.Asked, leaf-reads.Learnt)
+calls t = (
+  u16-at-reads.Asked,
+  u16-at-reads.Learnt,
+  operand-below t,
+  operand-reads.Post,
+  both-reads.Asked,
+  both-reads.Learnt,
+  negation-reads.Asked,
+  negation-reads.Learnt,
+  leaf-reads.Asked,
+  leaf-reads.Learnt,
+)
 
 module _ (t : ℕ) where
   -- past the two reads: the bytes, the record's length and its kind
