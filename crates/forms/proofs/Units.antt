@@ -12,7 +12,7 @@ use Rattle.rules.specs.Basics.{if_then_else_}
 use Rattle.rules.specs.Syntax.{Expr, Simple, set, transfer, require, return}
 use Rattle.rules.specs.Syntax.{Stmt, simple, block, ifThen, ifElse, while, for, Stmts, last, _then_}
 use Rattle.rules.specs.Values.{evaluate, isTrue}
-use Rattle.rules.specs.Running.{Setting, Run, going, returned, stopped, Exec, Action, after, _>>=_, skip, stop, orStop, view, assign, answer}
+use Rattle.rules.specs.Running.{Setting, Run, going, returned, stopped, Exec, Action, after, _>>=_, skip, stop, orStop, view, assign, returnWith}
 use Rattle.rules.specs.Running.{charge, value, pay, perform, condition, loop, repeat, statement, statements, guarded}
 use Rattle.forms.proofs.Choosing.{if-all}
 
@@ -112,7 +112,7 @@ module _ (c : Setting) where
   -- ---- actions
 
   pub perform-costs : (x : Simple) (m : Machine) → Costs 1 (wayOf x) m (perform c x m)
-  unfolding perform answer
+  unfolding perform returnWith
   perform-costs (set t e) m = charged goes 25 e _ m (λ x v. assign-costs t x v)
   perform-costs (transfer k e) m = charged goes 25 k _ m (λ i v. costs-then 0 goes v (value c 25 e v) _ (value-costs 25 e v) (λ x u. pay-costs i x u))
   perform-costs (require e) m = charged goes 25 e _ m (λ x v. check-costs (isTrue x) 25 v)

@@ -15,7 +15,7 @@ use Rattle.rules.specs.Syntax.{Expr, Simple, set, transfer, require, return}
 use Rattle.rules.specs.Syntax.{Stmt, simple, block, ifThen, ifElse, while, for, Stmts, last, _then_}
 use Rattle.rules.specs.Values.{evaluate, isTrue}
 use Rattle.rules.specs.Running.{Setting, Run, going, returned, stopped, Exec, Action, after, skip, stop, orStop, view, value}
-use Rattle.rules.specs.Running.{charge, assign, pay, answer, perform, condition, loop, repeat, statement, statements, guarded}
+use Rattle.rules.specs.Running.{charge, assign, pay, returnWith, perform, condition, loop, repeat, statement, statements, guarded}
 use Rattle.machine.specs.Flows.{Flow, Tested, flowOf, testedOf, funds, Solvent, Funded}
 use Rattle.machine.proofs.Sums.{sum-set}
 
@@ -137,8 +137,8 @@ pay-keeps l a k x m q = go (ltb k a && leb x (m .own)) refl
         })
     go false e = rw e (kept-same l m)
 
-pub answer-keeps : (l x : ℕ) (m : Machine) → Keeps l m (answer x m)
-unfolding Keeps answer funds
+pub answer-keeps : (l x : ℕ) (m : Machine) → Keeps l m (returnWith x m)
+unfolding Keeps returnWith funds
 answer-keeps l x m = record { total = refl; variables = refl; locals = refl; balances = refl; units = omega arith; within = λ h. h }
 
 pub stop-keeps : (l n : ℕ) (v : Value) (m : Machine) → Keeps l m (orStop n v m)

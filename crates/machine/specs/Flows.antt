@@ -9,7 +9,7 @@ use Rattle.rules.specs.declared.Value.{Value}
 use Rattle.rules.specs.Basics.{if_then_else_, sum, most32}
 use Rattle.rules.specs.Values.{isTrue}
 use Rattle.rules.specs.Running.{Run, going, returned, stopped, Action, Exec, after, pure, skip, stop}
-use Rattle.rules.specs.Running.{machine, orStop, assign, pay, answer}
+use Rattle.rules.specs.Running.{machine, orStop, assign, pay, returnWith}
 use Rattle.machine.specs.declared.Numbers.{Numbers}
 use Rattle.machine.specs.declared.Progress.{Progress}
 use Rattle.machine.specs.declared.Decided.{Decided}
@@ -88,7 +88,7 @@ unfoldable pub payValues : (accounts : ℕ) (account amount : Value) → Action
 payValues accounts k v m = after (orStop 25 k m) (λ i w. after (orStop 25 v w) (pay accounts i))
 
 unfoldable pub answerValue : Value → Action
-answerValue v m = after (orStop 25 v m) answer
+answerValue v m = after (orStop 25 v m) returnWith
 
 unfoldable pub demandValue : (failed untrue : ℕ) → Value → Action
 demandValue failed untrue v m = after (orStop failed v m) (λ x. if isTrue x then skip else stop untrue)

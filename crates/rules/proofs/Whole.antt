@@ -21,7 +21,7 @@ unfolding Basics.choose Basics.firstOf Basics.given Basics.isNone Basics.any Bas
     Reading.loopSet Reading.statement Reading.transitionBody Reading.ruleBody Reading.rowBody Reading.fieldsBody
     Reading.agreementBody Reading.readTree Reading.treeOf Reading.exprAt Reading.simpleAt Values.truth Values.isTrue
     Values.checked Values.apply Values.negated Values.onValue Values.both Values.evaluate Running.orStop Running.view
-    Running.assign Running.answer Running.charge Running.value Running.pay Running.perform Running.condition
+    Running.assign Running.returnWith Running.charge Running.value Running.pay Running.perform Running.condition
     Running.loop Running.repeat Running.statement Running.guarded Expanding.stepKind Expanding.targetOf
     Expanding.stepOf Expanding.joints Expanding.made Expanding.expand Expanding.expandTransitions Expanding.expansion
     Expanding.wordsOf Expanding.table Expanding.stepsIn Accepting.firstRepeat Accepting.sized Accepting.accept
@@ -36,8 +36,8 @@ unfolding Basics.choose Basics.firstOf Basics.given Basics.isNone Basics.any Bas
     Stepping.walkBy Stepping.settled Stepping.startSteps Stepping.callSteps Stepping.beginsWith Stepping.lentTests
     Stepping.lentSteps Stepping.startExpanded Stepping.callExpanded Stepping.runListExpanded Lists.listsOf
     Lists.listsTo Judging.notTrue Judging.violated Judging.isCompleted Judging.eventsIn Judging.later
-    Judging.unpreceded Judging.breaksBy Judging.breaks Judging.rowsAt Judging.oneLater Judging.firstOr Judging.first
-    Judging.ruledBy Judging.ruledOn Judging.listsFor Judging.breaking Judging.ruling Judging.judged Judging.judgedOf
+    Judging.unpreceded Judging.breaksBy Judging.breaksRun Judging.breaks Judging.breaksExpanded Judging.rowsAt Judging.firstFrom Judging.first
+    Judging.ruledBy Judging.ruledOn Judging.listsFor Judging.breaking Judging.breakingExpanded Judging.ruling Judging.judged Judging.judgedOf
     Judging.refusedVerdict Judging.verdictTests Judging.judge Judging.verdict Reporting.digits Reporting.decimal
     Reporting.spaced Reporting.refusedLine Reporting.stepsLine Reporting.verdictPart Reporting.ruleLine
     Reporting.ruleLines Reporting.report Answers.readNumbers Answers.countedNumbers Answers.valueNumbers

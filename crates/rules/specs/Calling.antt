@@ -91,12 +91,12 @@ unfit f s =
     || any isTrue (drop (f .accounts) (s .balances))
     || Bool.not (eqb (total s) (sum (f .opening)))
 
--- A call's refusals before anything is charged, "the smaller number goes first": `lent` are those of the lent words, `elsewhere`
--- says "name known, but not from here".
-unfoldable pub callTests : Fields → State → Call → (lent : List (Bool × ℕ)) (elsewhere : Bool) → List (Bool × ℕ)
-callTests f s k lent elsewhere =
+-- A call's refusals before anything is charged, "the smaller number goes first": `wordTests` are those of the lent words,
+-- `elsewhere` says "name known, but not from here".
+unfoldable pub callTests : Fields → State → Call → (wordTests : List (Bool × ℕ)) (elsewhere : Bool) → List (Bool × ℕ)
+callTests f s k wordTests elsewhere =
     (leb (f .accounts) (k .sender), 9)
-    ∷ lent
+    ∷ wordTests
     ++ ((unfit f s, 20)
     ∷ (ltb (getD (s .balances) (k .sender) 0) (k .coins), 21)
     ∷ (elsewhere, 22)

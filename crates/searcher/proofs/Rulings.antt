@@ -22,7 +22,8 @@ use Rattle.rules.specs.declared.Verdict.{Verdict}
 use Rattle.rules.specs.declared.Verdict.the-variants.{Broken, Held}
 use Rattle.rules.specs.Basics.{if_then_else_, each}
 use Rattle.rules.specs.Lists.{listsOf, listsTo}
-use Rattle.rules.specs.Judging.{Ruling, broken, held, spent, First, at, nowhere, oneLater, firstOr, first, ruledBy, ruledOn, judged, judgedOf}
+use Rattle.rules.specs.Judging.{Ruling, broken, held, spent, First, at, nowhere, first, firstFrom, ruledBy, ruledOn, judged, judgedOf}
+use Rattle.rules.proofs.Firsts.{oneLater, first-cons}
 use Rattle.searcher.specs.Searching.{continued}
 
 -- ---- continued rulings
@@ -43,12 +44,12 @@ continued-twice n m l k (spent i) = ap spent (omega arith)
 
 module _ (p : List ℕ → Bool) where
   ruled-nil : (k : ℕ) → ruledOn k p [] ≡ held 0
-  unfolding ruledOn ruledBy first
+  unfolding ruledOn ruledBy first firstFrom
   ruled-nil zero = refl
   ruled-nil (suc k) = rw leb·zero
 
   ruled-zero : (x : List ℕ) (xs : List (List ℕ)) → ruledOn 0 p (x ∷ xs) ≡ spent 0
-  unfolding ruledOn ruledBy first
+  unfolding ruledOn ruledBy first firstFrom
   ruled-zero x xs = rw leb·suc-zero
 
   one-later : (count k : ℕ) (f : First) → ruledBy (suc count) (suc k) (oneLater f) ≡ continued 1 [] (ruledBy count k f)
@@ -61,8 +62,8 @@ module _ (p : List ℕ → Bool) where
       go false = ap spent (omega arith)
 
   ruled-cons : (k : ℕ) (x : List ℕ) (xs : List (List ℕ)) → ruledOn (suc k) p (x ∷ xs) ≡ (if p x then broken 1 x else continued 1 [] (ruledOn k p xs))
-  unfolding ruledOn ruledBy first firstOr
-  ruled-cons k x xs = go (p x)
+  unfolding ruledOn ruledBy
+  ruled-cons k x xs = rw first-cons (go (p x))
     where
       go : (b : Bool) → ruledBy (suc (length xs)) (suc k) (if b then at 1 x else oneLater (first p (take k xs)))
           ≡ (if b then broken 1 x else continued 1 [] (ruledBy (length xs) k (first p (take k xs))))

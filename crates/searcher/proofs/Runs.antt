@@ -13,7 +13,7 @@ use Rattle.rules.specs.declared.State.{State}
 use Rattle.rules.specs.Lists.{listsTo}
 use Rattle.rules.specs.Syntax.{Rule, Agreement}
 use Rattle.rules.specs.Calling.{noCall, startTree, callTree, callsFrom}
-use Rattle.rules.specs.Judging.{Event, isCompleted, eventsIn, breaksBy, breaks, rowsAt, ruledOn, breaking, listsFor, ruling}
+use Rattle.rules.specs.Judging.{Event, isCompleted, eventsIn, breaksBy, breaks, breaksRun, rowsAt, ruledOn, breaking, listsFor, ruling}
 use Rattle.totals.proofs.Trees.{tree-good}
 use Rattle.totals.proofs.Fitting.{call-tree-kept, fit-kept, fit-not-unfit, not-unfit-fit}
 use Rattle.machine.specs.Calls.{Fits}
@@ -54,7 +54,7 @@ call-fits {file} a f same s k o is h =
 module _ (a : Agreement) (x : Rule) (fresh : State) (s : Status) (is : fresh ≡ startTree a .state)
     (begins : (es : List Event) → breaksAfter x s es ≡ breaksBy x fresh es) where
   breaks-fresh : (l : List ℕ) → breaksFrom a x (record { state = fresh; status = s }) l ≡ breaking a x l
-  unfolding breaksFrom breaking breaks
+  unfolding breaksFrom breaking breaks breaksRun
   breaks-fresh l = rw (← is) (begins _)
 
   pub ruling-by : (bound count depth : ℕ) → bound ≡ a .fields .bound → count ≡ length (a .rows) → depth ≡ a .fields .depth

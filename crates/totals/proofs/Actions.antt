@@ -20,7 +20,7 @@ use Rattle.rules.specs.Basics.{if_then_else_, sum}
 use Rattle.rules.specs.Syntax.{Expr, Simple, set, transfer, require, return, Stmt, simple, block, ifThen, ifElse, while, for}
 use Rattle.rules.specs.Syntax.{Stmts, last, _then_}
 use Rattle.rules.specs.Values.{evaluate, isTrue}
-use Rattle.rules.specs.Running.{Setting, machine, Run, going, returned, stopped, Exec, Action, after, _>>=_, _>>_, skip, stop, orStop, view, assign, answer}
+use Rattle.rules.specs.Running.{Setting, machine, Run, going, returned, stopped, Exec, Action, after, _>>=_, _>>_, skip, stop, orStop, view, assign, returnWith}
 use Rattle.rules.specs.Running.{charge, value, pay, perform, condition, loop, repeat, statement, statements, guarded}
 use Rattle.totals.proofs.Trees.{both-true, Target, Aimed, Sound, Sounds}
 
@@ -155,7 +155,7 @@ module _ (c : Setting) (h : Holdings) (room : c .fields .accounts ≤ length (h 
   valued-keeps n e f g = keeps-bind _ charge-keeps λ _. keeps-bind f (value-keeps n e) g
 
   perform-keeps : (x : Simple) → Aimed (c .fields .variables) x → Keeps (perform c x)
-  unfolding perform answer
+  unfolding perform returnWith
   perform-keeps (set t e) q = valued-keeps 25 e _ λ x. assign-keeps t x q
   perform-keeps (transfer k e) q = valued-keeps 25 k _ λ i. keeps-bind _ (value-keeps 25 e) λ x. pay-keeps i x
   perform-keeps (require e) q = valued-keeps 25 e _ λ x. keeps-if (isTrue x) keeps-skip (keeps-stop 25)

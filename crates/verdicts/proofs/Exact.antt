@@ -16,9 +16,10 @@ use lib.Dec.{leb, leb·zero, leb·suc-zero, leb·suc-suc}
 use lib.ListN.{length, take}
 use Rattle.rules.specs.Basics.{if_then_else_}
 use Rattle.rules.specs.Lists.{At, here, there}
-use Rattle.rules.specs.Judging.{Ruling, broken, held, spent, First, at, nowhere, oneLater, firstOr, first, ruledBy, ruledOn, ruling}
+use Rattle.rules.specs.Judging.{Ruling, broken, held, spent, First, at, nowhere, first, firstFrom, ruledBy, ruledOn, ruling}
 use Rattle.rules.specs.Judging.{breaking, listsFor}
 use Rattle.rules.specs.Demands.{Right, VerdictsExact, VerdictsByCase}
+use Rattle.rules.proofs.Firsts.{oneLater, first-cons}
 
 -- places are 1 and up to the number of lists, and a place has one list
 pub at-pos : {ls : List (List ℕ)} {n : ℕ} {l : List ℕ} → At ls n l → 1 ≤ n
@@ -72,14 +73,14 @@ right-more B p x ls (spent n) e r =
     (ap suc (r .0), omega arith, at-cons (λ m k. m ≤ suc B → p k ≡ false) (λ h. e) (λ m k a h. r .2 m k a (omega arith)))
 
 pub right : (B : ℕ) (p : List ℕ → Bool) (ls : List (List ℕ)) → Right B p ls (ruledOn B p ls)
-unfolding ruledOn ruledBy first firstOr
+unfolding ruledOn ruledBy first firstFrom
 right zero p [] = (refl, omega arith, λ m k a. absurd (at-none a))
 right (suc B) p [] = rw leb·zero (refl, omega arith, λ m k a. absurd (at-none a))
 right zero p (x ∷ ls) = rw leb·suc-zero (refl, omega arith, λ m k a h. let q = at-pos a in absurd (omega arith))
-right (suc B) p (x ∷ ls) = go (p x) refl (right B p ls)
+right (suc B) p (x ∷ ls) = rw first-cons (go (p x) refl (right B p ls))
   where
     go : (b : Bool) → p x ≡ b → Right B p ls (ruledOn B p ls)
-        → Right (suc B) p (x ∷ ls) (ruledBy (suc (length ls)) (suc B) (firstOr b x (first p (take B ls))))
+        → Right (suc B) p (x ∷ ls) (ruledBy (suc (length ls)) (suc B) (if b then at 1 x else oneLater (first p (take B ls))))
     go true e r = (here, omega arith, e, λ m k a h. let q = at-pos a in absurd (omega arith))
     go false e r = rw ruled-more (right-more B p x ls (ruledOn B p ls) e r)
 
