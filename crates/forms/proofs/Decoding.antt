@@ -8,13 +8,13 @@ use mathlib.Core.List.{List, [], _∷_, _++_}
 use lib.ListN.{length, length-append}
 use lib.Seq.{take-append-seam}
 use lib.Dec.{eqb}
-use borrow.Author.Tests.{eqb-true, le-ltb}
+use borrow.Author.Tests.{eqb-true, eq-eqb, le-ltb}
 use Rattle.rules.specs.declared.Call.{Call}
 use Rattle.rules.specs.declared.State.{State}
 use Rattle.rules.specs.Basics.{joined, firstOf}
 use Rattle.rules.specs.Syntax.{Agreement}
 use Rattle.rules.specs.Expanding.{Step, expansion, wordsOf, table, stepsIn}
-use Rattle.rules.specs.Accepting.{tooFew}
+use Rattle.rules.specs.Accepting.{tooFew, written}
 use Rattle.rules.specs.Calling.{callTests}
 use Rattle.rules.specs.Stepping.{beginsWith, lentTests, lentSteps}
 use Rattle.forms.proofs.ReadBack.{false-true, and-true}
@@ -28,6 +28,16 @@ begins (w ∷ ws) (y ∷ ys) e =
     let t = and-true (eqb w y) (beginsWith ws ys) e in
     let r = begins ws ys (t .1) in
     (r .0, ap₂ (λ (x : ℕ) (l : List ℕ). x ∷ l) (eqb-true w y (t .0)) (r .1))
+
+begins-with : (xs ys : List ℕ) → beginsWith (xs ++ ys) xs ≡ true
+unfolding beginsWith
+begins-with [] ys = refl
+begins-with (x ∷ xs) ys = rw (eq-eqb x x refl) (begins-with xs ys)
+
+-- the words that were written begin with the expansion
+pub written-begins : (a : Agreement) (words : List ℕ) → beginsWith (written a words) (table (expansion a)) ≡ true
+unfolding written
+written-begins a words = begins-with (table (expansion a)) _
 
 table-length : (l : List Step) → length (table l) ≡ 5 * length l
 unfolding table joined wordsOf

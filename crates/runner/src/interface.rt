@@ -13,10 +13,8 @@ use rules::Counted;
 use rules::Outcome;
 ghost use mathlib.Core.Path.{_≡_};
 ghost use Rattle.rules.specs.Accepting.{readFile, expandFile};
-ghost use Rattle.rules.specs.Answers.{readNumbers, countedNumbers, answerNumbers, stateNumbers, stateFrom};
-ghost use Rattle.rules.specs.Calling.{start as startOf, call as callOf};
-ghost use Rattle.rules.specs.Stepping.{startExpanded, callExpanded};
-ghost use Rattle.runner.specs.Exported.{Handed};
+ghost use Rattle.rules.specs.Answers.{readNumbers, countedNumbers};
+ghost use Rattle.rules.specs.Exported.{StartHands, CallHands, StartExpandedHands, CallExpandedHands};
 
 // The refusal's number (0: accepted) and its place.
 #[no_mangle]
@@ -53,7 +51,7 @@ pub extern "C" fn agreement_expand(file: &[u8], words: &mut [u32], answer: &mut 
 // (1 or 0), that value or 0, and the units, and `state` gets the state record that is handed back.
 #[no_mangle]
 pub extern "C" fn agreement_start(file: &[u8], state: &mut [u32; 26], answer: &mut [u32; 5])
-    ensures { λ _. ⌜ Handed (startOf (now (file .entry))) (now (state .exit)) (now (answer .exit)) ⌝ }
+    ensures { λ _. ⌜ StartHands (now (file .entry)) (now (state .exit)) (now (answer .exit)) ⌝ }
 {
     let o = start(file);
     let a = o.answer;
@@ -72,9 +70,9 @@ pub extern "C" fn agreement_call(
     arguments: &[u32; 4],
     answer: &mut [u32; 5],
 )
-    ensures { λ _. ⌜ Handed
-        (callOf (now (file .entry)) (stateFrom (now (state .entry))) (record { name = name; sender = sender; coins = coins; arguments = now (arguments .entry) }))
-        (now (state .exit)) (now (answer .exit)) ⌝ }
+    ensures { λ _. ⌜ CallHands (now (file .entry))
+        (record { name = name; sender = sender; coins = coins; arguments = now (arguments .entry) })
+        (now (state .entry)) (now (state .exit)) (now (answer .exit)) ⌝ }
 {
     let k = Call {
         name,
@@ -96,7 +94,7 @@ pub extern "C" fn agreement_start_expanded(
     state: &mut [u32; 26],
     answer: &mut [u32; 5],
 )
-    ensures { λ _. ⌜ Handed (startExpanded (now (file .entry)) (now (words .entry))) (now (state .exit)) (now (answer .exit)) ⌝ }
+    ensures { λ _. ⌜ StartExpandedHands (now (file .entry)) (now (words .entry)) (now (state .exit)) (now (answer .exit)) ⌝ }
 {
     let o = start_expanded(file, words);
     let a = o.answer;
@@ -116,10 +114,9 @@ pub extern "C" fn agreement_call_expanded(
     arguments: &[u32; 4],
     answer: &mut [u32; 5],
 )
-    ensures { λ _. ⌜ Handed
-        (callExpanded (now (file .entry)) (now (words .entry)) (stateFrom (now (state .entry)))
-        (record { name = name; sender = sender; coins = coins; arguments = now (arguments .entry) }))
-        (now (state .exit)) (now (answer .exit)) ⌝ }
+    ensures { λ _. ⌜ CallExpandedHands (now (file .entry)) (now (words .entry))
+        (record { name = name; sender = sender; coins = coins; arguments = now (arguments .entry) })
+        (now (state .entry)) (now (state .exit)) (now (answer .exit)) ⌝ }
 {
     let k = Call {
         name,

@@ -3,11 +3,11 @@
 use Prim.Native.Nat.{ℕ, zero, suc, _*_, _≤_, _<_}
 use mathlib.Core.Path.{_≡_, refl}
 use mathlib.Core.Bool.{true, false}
-use mathlib.Core.List.{List, [], _∷_, _++_}
+use mathlib.Core.List.{List, [], _∷_}
 use mathlib.Core.Option.{none, some}
 use native.Mathlib.Omega.{arith}
 use lib.ListN.{length, getElem?}
-use borrow.Author.Tests.{lt-ltb, le-ltb, eq-eqb}
+use borrow.Author.Tests.{lt-ltb, le-ltb}
 use Rattle.rules.specs.declared.Outcome.{Outcome}
 use Rattle.rules.specs.declared.Verdict.the-variants.{Refused}
 use Rattle.rules.specs.Basics.{firstOf, given}
@@ -17,6 +17,7 @@ use Rattle.rules.specs.Accepting.{refusal, onFile, lent, tooFew, written}
 use Rattle.rules.specs.Calling.{startTree}
 use Rattle.rules.specs.Stepping.{beginsWith}
 use Rattle.rules.specs.Judging.{isCompleted, judged, judgedOf, ruling, refusedVerdict, verdictTests, judge, verdict}
+use Rattle.forms.proofs.Decoding.{written-begins}
 use Rattle.totals.proofs.Trees.{tree-good}
 use Rattle.totals.proofs.Fitting.{fit-not-unfit, start-fit}
 use Rattle.machine.specs.Calls.{Fits}
@@ -58,12 +59,5 @@ start-fits {file} a {o} e =
     let h = start-fit (a .tree) (tree-good file (a .tree) (a .is) .tree) c in
     record { sixteen = h .sixteen; eight = h .eight; fits = fit-not-unfit _ _ h })
 
-begins-with : (xs ys : List ℕ) → beginsWith (xs ++ ys) xs ≡ true
-unfolding beginsWith
-begins-with [] ys = refl
-begins-with (x ∷ xs) ys = rw (eq-eqb x x refl) (begins-with xs ys)
-
--- the words that were written begin with the expansion
 pub written-words : {file : List ℕ} (a : AcceptedFile file) (before : List ℕ) {words : List ℕ} → words ≡ written (a .tree) before → beginsWith words (table (expansion (a .tree))) ≡ true
-unfolding written
-written-words a before e = rw e (begins-with (table (expansion (a .tree))) _)
+written-words a before e = rw e (written-begins (a .tree) before)

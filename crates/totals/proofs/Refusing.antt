@@ -70,12 +70,16 @@ unfolding callBy
 call-by-restores f tests run s k =
     given-case (Restores s) (firstOf tests) (λ n. call-restores (refusal n) 0 s) (λ _ _. called-restores s _)
 
+pub start-tree-restores : (a : Agreement) → Restores zeroState (startTree a)
+unfolding startTree startBy
+start-tree-restores a = started-restores _
+
 pub refused-unchanged : RefusedUnchanged
 unfolding call callExpanded start startExpanded callTree callSteps startTree startSteps startBy
 refused-unchanged file words s k = (
   file-case (Restores s) (fileOf file) (λ r. call-restores r 0 s) (λ a _. call-by-restores _ _ _ s k),
   file-case (Restores s) (fileOf file) (λ r. call-restores r 0 s) (λ a _. call-by-restores _ _ _ s k),
-  file-case (Restores zeroState) (fileOf file) (λ r. start-restores r 0) (λ a _. started-restores _),
+  file-case (Restores zeroState) (fileOf file) (λ r. start-restores r 0) (λ a _. start-tree-restores a),
   file-case (Restores zeroState) (fileOf file) (λ r. start-restores r 0) λ a _.
       given-case (Restores zeroState) _ (λ n. start-restores (refusal n) 0) (λ _ _. started-restores _),
 )
