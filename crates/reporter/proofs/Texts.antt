@@ -1,18 +1,23 @@
 -- Putting one text behind another, and the digits of a number.
 -- Assumes nothing.
 use Prim.Native.Nat.{ℕ, zero, suc, _+_, _-_, _*_, _/_, _%_, _^_, _≤_, _<_}
-use mathlib.Core.Path.{_≡_, refl, sym, ap, subst, _∙_}
+use mathlib.Core.Path.{_≡_, refl, sym, ap, ap₂, subst, _∙_}
 use mathlib.Core.Bool.{Bool, true, false}
 use mathlib.Core.List.{List, [], _∷_, _++_, append-assoc, append-nil}
-use lib.ListN.{length, getD, take, drop, set, replicate, length-append, length-set, length-drop}
-use lib.Seq.{append-snoc, set-split, drop-at, length-take-le, take-all}
+use lib.ListN.{length, getD, take, drop, set, replicate, length-append, length-set, length-drop, take-append-drop}
+use lib.Seq.{append-snoc, set-split, drop-at, drop-drop, length-take-le, take-all}
 use lib.Dec.{ltb}
 use borrow.Author.Tests.{lt-ltb, le-ltb}
 use native.Mathlib.Nat.{mod-eq-of-lt, pow-suc, mul-comm}
 use native.Mathlib.Omega.{arith}
-use Rattle.rules.specs.Basics.{if_then_else_, joined, each}
+use Rattle.rules.specs.Basics.{if_then_else_, joined, each, padded}
 use Rattle.rules.specs.Reporting.{digits, decimal, spaced}
 use Rattle.reporter.specs.Texts.{Put}
+
+-- two lists that are the same from one place on are so from a later one on
+later : (mid n : ℕ) {to : ℕ} {x y : List ℕ} → to ≡ mid + n → drop mid y ≡ drop mid x → drop to y ≡ drop to x
+later mid n {x = x} {y = y} e h =
+    ap (λ (k : ℕ). drop k y) e ∙ sym (drop-drop n mid y) ∙ ap (drop n) h ∙ drop-drop n mid x ∙ ap (λ (k : ℕ). drop k x) (sym e)
 
 pub then-put : {at mid to : ℕ} {a b x y z : List ℕ} → Put at a x y mid → Put mid b y z to → Put at (a ++ b) x z to
 then-put {at} {mid} {to} {a} {b} {x} {y} {z} p q =
@@ -20,10 +25,11 @@ then-put {at} {mid} {to} {a} {b} {x} {y} {z} p q =
       next = omega (arith, p .next, q .next, length-append a b);
       size = q .size ∙ p .size;
       front = q .front ∙ ap (λ (l : List ℕ). l ++ b) (p .front) ∙ append-assoc (take at x) a b;
+      rest = q .rest ∙ later mid (length b) (q .next) (p .rest);
     }
 
 pub put-none : (at : ℕ) (x : List ℕ) → Put at [] x x at
-put-none at x = record { next = omega arith; size = refl; front = sym (append-nil (take at x)) }
+put-none at x = record { next = omega arith; size = refl; front = sym (append-nil (take at x)); rest = refl }
 
 -- the first rows and one more
 pub rows-more : (rows : List ℕ) (i : ℕ) → i < length rows → joined spaced (take i rows) ++ spaced (getD rows i 0) ≡ joined spaced (take (suc i) rows)
@@ -100,6 +106,20 @@ left-one n i m d {ds} less h e l =
     let here : i < length ds = omega (arith, l .full) in
     take-all (10 - i) (drop i (set ds i d)) (omega (arith, length-drop i (set ds i d), length-set ds i d, l .full))
     ∙ stored ds i d here ∙ ap (λ (x : ℕ). x ∷ drop (suc i) ds) e ∙ sym (l .is ∙ ap (λ (x : List ℕ). x ++ drop (suc i) ds) (digits-one i m h))
+
+-- ---- a text at the front of zeros
+
+drop-zeros : (n m : ℕ) → drop n (replicate m 0) ≡ replicate (m - n) 0
+drop-zeros zero m = ap (λ (k : ℕ). replicate k 0) (omega arith)
+drop-zeros (suc n) zero = ap (λ (k : ℕ). replicate k 0) (omega arith)
+drop-zeros (suc n) (suc m) = drop-zeros n m ∙ ap (λ (k : ℕ). replicate k 0) (omega arith)
+
+pub put-page : {text after : List ℕ} {to : ℕ} → Put 0 text (replicate 1024 0) after to → after ≡ padded 1024 text
+unfolding padded
+put-page {text} {after} {to} p =
+    let z : to ≡ length text = omega (arith, p .next) in
+    sym (take-append-drop to after)
+    ∙ ap₂ (λ (l r : List ℕ). l ++ r) (p .front) (p .rest ∙ drop-zeros to 1024 ∙ ap (λ (k : ℕ). replicate (1024 - k) 0) z)
 
 pub decimal-short : (n : ℕ) → length (decimal n) ≤ 10
 unfolding decimal

@@ -20,17 +20,18 @@ ghost use Rattle.rules.specs.Calling.{startTree};
 ghost use Rattle.rules.specs.Judging.{isCompleted, verdict as verdictOf};
 ghost use Rattle.rules.specs.Reporting.{ruleLines, report as reportOf};
 ghost use Rattle.access.specs.Trees.{AcceptedFile};
-ghost use Rattle.reporter.specs.Texts.{Put};
+ghost use Rattle.reporter.specs.Texts.{Put, page};
 
-// A report: the first bytes, as many as its length.
+// A report: the first bytes, as many as its length; then zeros.
 pub struct Page {
     pub bytes: [u8; 1024],
     pub length: usize,
 }
 
-// What the report program prints of any bytes. The second `ensures` is what lending the text as `&bytes[..length]` asks.
+// What the report program prints of any bytes, and zeros behind it. The second `ensures` is what lending the text as
+// `&bytes[..length]` asks.
 pub fn report(file: &[u8]) -> Page
-    ensures { λ r. ⌜ take (r .length) (r .bytes) ≡ reportOf (now (file .entry)) ⌝ }
+    ensures { λ r. ⌜ r ≡ page (reportOf (now (file .entry))) ⌝ }
     ensures { λ r. ⌜ (r .length ≤ length (r .bytes)) × (r .length ≡ length (take (r .length) (r .bytes))) ⌝ }
 {
     let mut bytes = [0u8; 1024];

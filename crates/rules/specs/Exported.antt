@@ -1,5 +1,5 @@
--- The exported starts and calls: what each leaves in a client's record of 26 words and answer of 5, which is its contract, and what
--- a client sees who starts an agreement and makes a list of calls.
+-- The exported starts, calls and verdict: what each leaves in a client's memory, which is its contract, and what a client sees who
+-- starts an agreement and makes a list of calls.
 use mathlib.Core.Path.{_≡_}
 use Prim.Native.Nat.{ℕ}
 use mathlib.Core.List.{List, [], _∷_}
@@ -7,9 +7,10 @@ use Rattle.rules.specs.declared.Call.{Call}
 use Rattle.rules.specs.declared.Outcome.{Outcome}
 use Rattle.rules.specs.Calling.{start, call}
 use Rattle.rules.specs.Stepping.{startExpanded, callExpanded}
-use Rattle.rules.specs.Answers.{answerNumbers, stateNumbers, stateFrom}
+use Rattle.rules.specs.Judging.{verdict}
+use Rattle.rules.specs.Answers.{answerNumbers, judgedNumbers, stateNumbers, stateFrom}
 
--- an outcome's state record and answer
+-- an outcome's state record, in 26 words, and its answer, in 5
 pub record Handed (o : Outcome) (state answer : List ℕ) : Type 0 where
   pub state-is : state ≡ stateNumbers (o .state)
   pub answer-is : answer ≡ answerNumbers (o .answer)
@@ -26,6 +27,11 @@ StartExpandedHands file words = Handed (startExpanded file words)
 
 abbrev pub CallExpandedHands : (file words : List ℕ) → Call → (before state answer : List ℕ) → Type 0
 CallExpandedHands file words k before = Handed (callExpanded file words (stateFrom before) k)
+
+-- the contract of `agreement_verdict`: what it leaves in the lent words and in its answer
+pub record VerdictHands (file : List ℕ) (rule : ℕ) (words after answer : List ℕ) : Type 0 where
+  pub words-are : after ≡ verdict file rule words .words
+  pub answer-is : answer ≡ judgedNumbers (verdict file rule words .answer)
 
 -- a record and an answer as a client finds them
 pub record Seen : Type 0 where

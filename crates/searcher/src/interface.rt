@@ -4,7 +4,7 @@ use rules::Judged;
 use rules::Verdict;
 ghost use mathlib.Core.Path.{_≡_};
 ghost use Rattle.rules.specs.Answers.{verdictNumbers, judgedNumbers};
-ghost use Rattle.rules.specs.Judging.{verdict as verdictOf};
+ghost use Rattle.rules.specs.Exported.{VerdictHands};
 
 fn wide(x: u8) -> u32
     ensures { λ r. ⌜ r ≡ x ⌝ }
@@ -56,8 +56,7 @@ pub extern "C" fn agreement_verdict(
     words: &mut [u32],
     answer: &mut [u32; 13],
 )
-    ensures { λ _. ⌜ now (answer .exit) ≡ judgedNumbers (verdictOf (now (file .entry)) rule (now (words .entry)) .answer) ⌝ }
-    ensures { λ _. ⌜ now (words .exit) ≡ verdictOf (now (file .entry)) rule (now (words .entry)) .words ⌝ }
+    ensures { λ _. ⌜ VerdictHands (now (file .entry)) rule (now (words .entry)) (now (words .exit)) (now (answer .exit)) ⌝ }
 {
     let j = verdict(file, rule, words);
     *answer = judged_words(j);

@@ -3,8 +3,8 @@ use Prim.Native.Nat.{ℕ, suc, _+_, _-_, _≤_}
 use mathlib.Core.List.{List, _++_}
 use mathlib.Core.Path.{_≡_, refl, ap, _∙_}
 use native.Mathlib.Omega.{arith}
-use lib.ListN.{length, take, getD, set}
-use lib.Seq.{paste, paste-zero, paste-suc, length-paste, take-paste, take-length}
+use lib.ListN.{length, take, drop, getD, set}
+use lib.Seq.{paste, paste-zero, paste-suc, length-paste, take-paste, drop-paste, take-length}
 use borrow.Author.Needs.{needs}
 use denote.Ref.{now}
 use Rattle.reporter.proofs.text.put.Statement.{statement}
@@ -67,6 +67,9 @@ returns c =
           ap (take (a .at + length s)) (l .loop .inv .3 ∙ ap (λ (k : ℕ). paste text (a .at) s k) z)
           ∙ take-paste text (a .at) s (length s) (omega (arith, l .loop .inv .2)) (omega arith)
           ∙ ap (λ (r : List ℕ). take (a .at) text ++ r) (take-length s);
+      rest =
+          ap (drop (a .at + length s)) (l .loop .inv .3 ∙ ap (λ (k : ℕ). paste text (a .at) s k) z)
+          ∙ drop-paste text (a .at) s (length s) (omega (arith, l .loop .inv .2)) (omega arith);
     }
 
 pub put-spec : {M : Type 1} → statement M

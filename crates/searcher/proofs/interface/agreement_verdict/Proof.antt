@@ -10,7 +10,10 @@ use Rattle.searcher.proofs.interface.agreement_verdict.Tie as tie
 returns : tie.Need-returns
 returns c =
     let e = c .before .before .before .verdict .ensures in
-    (c .judged-words .ensures ∙ ap (λ (l : Lent Judged). judgedNumbers (l .answer)) e, ap (λ (l : Lent Judged). l .words) e)
+    record {
+      words-are = ap (λ (l : Lent Judged). l .words) e;
+      answer-is = c .judged-words .ensures ∙ ap (λ (l : Lent Judged). judgedNumbers (l .answer)) e;
+    }
 
 pub agreement-verdict-spec : {M : Type 1} → statement M
 agreement-verdict-spec =
