@@ -32,7 +32,7 @@ zeroState = record { state = 0; variables = replicate 16 0; balances = replicate
 unfoldable pub refusedStart : Refusal → (units : ℕ) → Outcome
 refusedStart r u = outcome (Refused r u) zeroState
 
--- "Any refusal restores the whole state record, coins included."
+-- "Any refusal restores the whole state record, coins included." "On refusal: .. state and words unchanged"
 unfoldable pub refusedCall : Refusal → (units : ℕ) → State → Outcome
 refusedCall r u s = outcome (Refused r u) s
 
@@ -48,7 +48,8 @@ openingState f = record { state = f .start; variables = replicate 16 0; balances
 unfoldable pub noCall : Call
 noCall = record { name = 0; sender = 0; coins = 0; arguments = replicate 4 0 }
 
--- "Coins move from sender to agreement." "Locals begin at zero." Nothing is charged or returned yet.
+-- "Coins move from sender to agreement." "Locals begin at zero." Nothing is charged or returned yet: "An action without a return
+-- answers 'no value'."
 unfoldable pub entered : Call → State → Machine
 entered k s =
     machine (s .variables) (replicate 8 0)
@@ -78,7 +79,7 @@ unfoldable pub started : End → Outcome
 started (ended n m) = outcome (Completed NoValue (m .units)) (stateAfter n m)
 started (halted k m) = refusedStart (refusal 27) (m .units)
 
--- "units charged with 23 to 27 on a start or call"
+-- "units charged with 23 to 27 on a start or call, else 0": those are refused in a run, and the others before it
 unfoldable pub called : State → End → Outcome
 called s (ended n m) = outcome (Completed (m .returned) (m .units)) (stateAfter n m)
 called s (halted k m) = refusedCall (refusal k) (m .units) s
@@ -91,8 +92,9 @@ unfit f s =
     || any isTrue (drop (f .accounts) (s .balances))
     || Bool.not (eqb (total s) (sum (f .opening)))
 
--- A call's refusals before anything is charged, "the smaller number goes first": `wordTests` are those of the lent words,
--- `elsewhere` says "name known, but not from here".
+-- A call's refusals before anything is charged: "9: sender not below A (calls).", those of the lent words (`wordTests`), 20, "21:
+-- sender's balance below the coins. 22: name known, but not from here." (`elsewhere`). "From 6 on the smaller number goes first, but
+-- of 24 to 26 the one met first in running."
 unfoldable pub callTests : Fields → State → Call → (wordTests : List (Bool × ℕ)) (elsewhere : Bool) → List (Bool × ℕ)
 callTests f s k wordTests elsewhere =
     (leb (f .accounts) (k .sender), 9)
@@ -152,12 +154,13 @@ start file = onFile (λ r. refusedStart r 0) startTree (fileOf file)
 unfoldable pub call : (file : List ℕ) → State → Call → Outcome
 call file s k = onFile (λ r. refusedCall r 0 s) (λ a. callTree a s k) (fileOf file)
 
--- A list of calls from a state record: "each call gets the record that the call before it handed back, refused or not".
+-- A list of calls from a state record: "each call gets the record that the call before it handed back, refused or not, and nothing
+-- else changes it."
 unfoldable pub callsFrom : (State → Call → Outcome) → State → List Call → List Outcome
 callsFrom call s [] = []
 callsFrom call s (k ∷ ks) = let o = call s k in o ∷ callsFrom call (o .state) ks
 
--- the start's outcome, then the calls'
+-- the start's outcome, then the calls'; "Each run begins with its own start's record"
 unfoldable pub follow : (State → Call → Outcome) → Outcome → List Call → List Outcome
 follow call o ks = o ∷ callsFrom call (o .state) ks
 
