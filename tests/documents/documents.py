@@ -16,6 +16,7 @@ PATH = re.compile(r"[\w.+-]+(?:/[\w.+*-]+)+/?")
 HOLDER = re.compile(r"(?:^|[/.])[A-Z]{2,}(?=$|[/.])")
 POINT = re.compile(r"^(\d+)\. ", re.MULTILINE)
 POINTED = re.compile(r"(?:\bpoints? |`DECISIONS\.md`, )(\d+)(?: and (\d+))?")
+STANDING = re.compile(r"^Where the proofs stand:(.*?)\n\n", re.MULTILINE | re.DOTALL)
 # What a test may be in TRACE.md beside the folders of tests/.
 TESTS = {"Cases", "edit", "edits", "the stored output"}
 
@@ -72,8 +73,18 @@ def strict(project: Project, document: str, text: str) -> Iterator[Check]:
             yield Check(document, name, *general(project, name, folder))
 
 
+def standing(project: Project, document: str, text: str) -> Iterator[Check]:
+    """Where the proofs of statements are said to stand: before each crate its statements."""
+    for part in (p for paragraph in STANDING.findall(text) for p in paragraph.split(";")):
+        *stated, crate = coded(part)
+        for name in stated:
+            found = project.proved().get(name, "").startswith(f"{crate}/")
+            yield Check(document, name, f"proved in {crate}", found)
+
+
 def promises(project: Project, document: str, text: str) -> Iterator[Check]:
     """In PROMISES.md definitions are those of the rules, and contracts ask nothing."""
+    yield from standing(project, document, text)
     for check in strict(project, document, text):
         if names.QUALIFIED.fullmatch(check.name) and check.expected == "a definition":
             found = names.definition(project, check.name, ["rules"])
@@ -108,9 +119,11 @@ def proved(project: Project, cell: str) -> Iterator[tuple[str, str, bool]]:
 
 
 def tested(project: Project, cell: str) -> Iterator[tuple[str, str, bool]]:
-    """Edits, paths, names of interpreter tests; and beside them words for tests."""
+    """Lists of worked cases, edits, paths, names of interpreter tests; and beside them words for tests."""
     for name in coded(cell):
-        if names.EDIT.fullmatch(name):
+        if names.QUALIFIED.fullmatch(name):
+            yield name, "a list of worked cases", names.case(project, name)
+        elif names.EDIT.fullmatch(name):
             yield name, "a must-fail edit", name in project.edits()
         elif "/" in name:
             yield name, "a path", names.path(project, name)

@@ -17,6 +17,12 @@ def definition(project: Project, name: str, crates: list[str]) -> bool:
     return found is not None and any(found[2] in project.declared(f"crates/{crate}/specs/{found[1]}.antt") for crate in crates)
 
 
+def case(project: Project, name: str) -> bool:
+    """A definition of the rules whose cases are proved by computing."""
+    used = re.findall(r"\w+", project.text("crates/rules/proofs/Cases.antt"))
+    return definition(project, name, ["rules"]) and name.split(".")[1] in used
+
+
 def statement(project: Project, name: str) -> bool:
     """A name that stands alone is declared among the definitions."""
     return any(name in project.declared(p) for p in project.under("crates/rules/specs", ".antt"))

@@ -35,6 +35,7 @@ OTHER: dict[str, dict[str, str]] = {
     "docs/DECISIONS.md": {
         "&mut": KIT,
         "match": KIT,
+        "ensures": KIT,
         "libc": KIT,
         "record": "a word of the proof language, and a parameter of `include/agreement.h`",
         "state": "a parameter of the exported functions",
