@@ -1,5 +1,6 @@
 """The other way round: what is there is named in the documents."""
 
+import re
 from collections.abc import Iterator
 
 from documents import POINT, Check, coded
@@ -29,6 +30,15 @@ def traced(project: Project, trace: str) -> Iterator[Check]:
         yield Check("crates/*/must-fail", edit, "cited in docs/TRACE.md", edit in cited)
 
 
+def listed(project: Project, document: str, text: str) -> Iterator[Check]:
+    """Every crate stands in the README, and every folder of tests in theirs."""
+    cited = set(coded(text))
+    crates = [f"crates/{crate}" for crate in project.crates]
+    tests = [p.split("/")[1] for p in project.files if re.fullmatch("tests/[^/]+/test", p)]
+    for name in crates if document == "README.md" else tests:
+        yield Check(document, name, f"a folder that {document} lists", name in cited)
+
+
 def numbered(decisions: str) -> Iterator[Check]:
     """The points of DECISIONS.md are numbered one after the other."""
     for place, number in enumerate(POINT.findall(decisions), 1):
@@ -47,5 +57,7 @@ def backwards(project: Project) -> Iterator[Check]:
     yield from promised(project, project.text("docs/PROMISES.md"))
     yield from traced(project, project.text("docs/TRACE.md"))
     yield from numbered(project.text("docs/DECISIONS.md"))
+    for document in ("README.md", "tests/README.md"):
+        yield from listed(project, document, project.text(document))
     for document in OTHER:
         yield from used(document, project.text(document))

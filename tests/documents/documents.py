@@ -13,7 +13,7 @@ CODE = re.compile(r"`([^`]+)`")
 LINK = re.compile(r"\]\(([^)#]+)[^)]*\)")
 REMARK = re.compile(r"\([^)]*\)")
 PATH = re.compile(r"[\w.+-]+(?:/[\w.+*-]+)+/?")
-HOLDER = re.compile(r"(?:^|[/.])[A-Z]{2,}(?=$|[/.])")
+HOLDER = re.compile(r"(?:^|/)([A-Z]{2,})(?=$|[/.])")
 POINT = re.compile(r"^(\d+)\. ", re.MULTILINE)
 POINTED = re.compile(r"(?:\bpoints? |`DECISIONS\.md`, )(\d+)(?: and (\d+))?")
 STANDING = re.compile(r"^Where the proofs stand:(.*?)\n\n", re.MULTILINE | re.DOTALL)
@@ -56,13 +56,15 @@ def general(project: Project, name: str, folder: str) -> tuple[str, bool]:
         return "a function with a contract, or a type", names.contract(project, name) or names.type_of(project, name)
     if names.EDIT.fullmatch(name) and name in project.edits():
         return "a must-fail edit", True
+    if "/" in name.split()[0] and " " in name:
+        return "a command", names.path(project, name.split()[0])
     if "/" in name:
         return "a path or a must-fail edit", names.path(project, name, folder) or names.in_crates(project, name)
     if name.startswith("["):
         return "an array type of the sources", names.in_sources(project, name)
     if name[0].isupper():
         return "a type or a statement", names.type_of(project, name) or names.statement(project, name)
-    return "a crate, a folder of tests, a function or a theorem", names.lower(project, name)
+    return "a crate, a folder of tests, a command, a function or a theorem", names.lower(project, name)
 
 
 def strict(project: Project, document: str, text: str) -> Iterator[Check]:
@@ -156,21 +158,37 @@ def loose(project: Project, document: str, text: str) -> Iterator[Check]:
     for link in LINK.findall(text):
         if "://" not in link:
             yield Check(document, link, "a path", names.path(project, link, folder))
+    for name in folders(text):
+        yield Check(document, name, "a folder", names.path(project, name, folder))
     for word in (w for part in [*coded(text), *blocks(text)] for w in part.split()):
         if check := looked_for(project, word, folder):
             yield Check(document, word, *check)
 
 
+def folders(text: str) -> Iterator[str]:
+    """What the first column of a table has, if the table is one of folders."""
+    table = False
+    for line in text.splitlines():
+        table = line.startswith("| folder |") or table and line.startswith("|")
+        if table:
+            yield from coded(line.split("|")[1])
+
+
+def holds_place(project: Project, word: str) -> bool:
+    """Some part of a path is in capitals and names no file: it stands for any name."""
+    return not word.endswith(".md") and any(part not in project.stems for part in HOLDER.findall(word))
+
+
 def looked_for(project: Project, word: str, folder: str) -> tuple[str, bool] | None:
     """What a word of a loosely checked document is by its form, and whether it is there; none if it is no name."""
-    if HOLDER.search(word) and not word.endswith(".md"):
+    if holds_place(project, word):
         return None
     if word.split("::")[0] in project.crates and names.FUNCTION.fullmatch(word):
         return general(project, word, folder)
     if names.SUFFIX.fullmatch(word) and "/" not in word or word.endswith(".md"):
         return general(project, word, folder)
     if PATH.fullmatch(word) and not word.startswith("-"):
-        return "a path", names.path(project, word, folder)
+        return "a path", names.path(project, word, folder) or names.in_crates(project, word)
     if (found := names.QUALIFIED.fullmatch(word)) and names.in_crates(project, f"specs/{found[1]}.antt"):
         return general(project, word, folder)
     return None

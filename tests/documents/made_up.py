@@ -2,7 +2,7 @@
 
 from collections.abc import Iterator
 
-from backwards import numbered, promised, proved, traced, used
+from backwards import listed, numbered, promised, proved, traced, used
 from documents import Check, checks
 from project import Project
 
@@ -51,6 +51,7 @@ MADE_UP: list[tuple[str, str, str]] = [
     (DECISIONS, "`no-such-theorem`", "no-such-theorem"),
     (DECISIONS, "`[u32; 999]`", "[u32; 999]"),
     (DECISIONS, "`machine/nothing`", "machine/nothing"),
+    (DECISIONS, "`scripts/nothing FILE`", "scripts/nothing FILE"),
     (README, "`docs/NOTHING.md`", "docs/NOTHING.md"),
     (README, "\n    scripts/nothing\n", "scripts/nothing"),
     (README, "[nothing](docs/NOTHING.md)", "docs/NOTHING.md"),
@@ -58,6 +59,7 @@ MADE_UP: list[tuple[str, str, str]] = [
     (README, "`Calling.nothing`", "Calling.nothing"),
     (README, "`runner::nothing`", "runner::nothing"),
     (README, "`crates/*/nothing`", "crates/*/nothing"),
+    (README, "| folder | what it holds |\n|---|---|\n| `nothing` | nothing |\n", "nothing"),
 ]
 
 
@@ -69,6 +71,8 @@ def found_missing(project: Project) -> Iterator[Check]:
         ("a statement without a theorem", proved(project, ["Nothing"])),
         ("a statement that is not promised", promised(project, "")),
         ("an edit that is not traced", traced(project, "")),
+        ("a crate that is not listed", listed(project, README, "")),
+        ("a test that is not listed", listed(project, "tests/README.md", "")),
         ("a number twice", numbered("1. one\n1. two\n")),
         ("a word that is not used", used(DECISIONS, "")),
     ]:

@@ -77,15 +77,16 @@ def in_crates(project: Project, name: str) -> bool:
 
 
 def lone_file(project: Project, name: str) -> bool:
-    """A file of some crate that is named without its folder."""
-    return any(p.endswith(f"/{name}") for p in project.under("crates", ""))
+    """A file that is named without its folder."""
+    return any(p.endswith(f"/{name}") for p in project.files)
 
 
 def lower(project: Project, name: str) -> bool:
-    """A crate, a folder of tests, or a function or theorem of some crate."""
+    """A crate, a folder of tests, a command of the designer, or a function or theorem of some crate."""
     return (
         name in project.crates
         or f"tests/{name}" in project.paths
+        or f"designer/{name}.py" in project.paths
         or any(name in project.functions(p) for p in project.of_crates("src", ".rt"))
         or any(name in project.declared(p) for p in project.of_crates("proofs", ".antt"))
     )

@@ -54,6 +54,7 @@ class Project:
         self.root = root
         self.paths = set(self._walk())
         self.files = sorted(p for p in self.paths if (root / p).is_file())
+        self.stems = {Path(p).stem for p in self.files}
         self.crates = sorted(p.name for p in (root / "crates").iterdir() if p.is_dir())
 
     def _walk(self) -> Iterator[str]:
