@@ -14,11 +14,12 @@ LINK = re.compile(r"\]\(([^)#]+)[^)]*\)")
 REMARK = re.compile(r"\([^)]*\)")
 PATH = re.compile(r"[\w.+-]+(?:/[\w.+*-]+)+/?")
 HOLDER = re.compile(r"(?:^|/)([A-Z]{2,})(?=$|[/.])")
+HEADING = re.compile(r"\|(?:-+\||.*\| definition \|)")
 POINT = re.compile(r"^(\d+)\. ", re.MULTILINE)
 POINTED = re.compile(r"(?:\bpoints? |`DECISIONS\.md`, )(\d+)(?: and (\d+))?")
 STANDING = re.compile(r"^Where the proofs stand:(.*?)\n\n", re.MULTILINE | re.DOTALL)
 # What a test may be in TRACE.md beside the folders of tests/.
-TESTS = {"Cases", "edit", "edits", "the stored output"}
+TESTS = {"edit", "edits", "the stored output"}
 
 
 class Check(NamedTuple):
@@ -32,7 +33,7 @@ class Check(NamedTuple):
 
 def coded(text: str) -> list[str]:
     """What a text sets as code, between backquotes."""
-    return [" ".join(word.split()) for word in CODE.findall(text)]
+    return [" ".join(word.split()) for word in CODE.findall(text) if word.strip()]
 
 
 def blocks(text: str) -> Iterator[str]:
@@ -78,10 +79,10 @@ def strict(project: Project, document: str, text: str) -> Iterator[Check]:
 def standing(project: Project, document: str, text: str) -> Iterator[Check]:
     """Where the proofs of statements are said to stand: before each crate its statements."""
     for part in (p for paragraph in STANDING.findall(text) for p in paragraph.split(";")):
-        *stated, crate = coded(part)
-        for name in stated:
-            found = project.proved().get(name, "").startswith(f"{crate}/")
-            yield Check(document, name, f"proved in {crate}", found)
+        named = coded(part)
+        for name in named[:-1]:
+            found = project.proved().get(name, "").startswith(f"{named[-1]}/")
+            yield Check(document, name, f"proved in {named[-1]}", found)
 
 
 def promises(project: Project, document: str, text: str) -> Iterator[Check]:
@@ -131,25 +132,31 @@ def tested(project: Project, cell: str) -> Iterator[tuple[str, str, bool]]:
             yield name, "a path", names.path(project, name)
         else:
             yield name, "a test of the interpreter", name in project.interpreter_tests()
-    for word in re.split("[,;]", REMARK.sub("", CODE.sub("", cell))):
-        if plain := word.strip():
-            yield plain, "a word for a test", plain in TESTS or f"tests/{plain}/test" in project.files
+    cases = any(names.QUALIFIED.fullmatch(name) for name in coded(cell))
+    for word in filter(None, map(str.strip, re.split("[,;]", REMARK.sub("", CODE.sub("", cell))))):
+        if word == "Cases":
+            yield word, "followed by a list of worked cases", cases
+        else:
+            yield word, "a word for a test", word in TESTS or f"tests/{word}/test" in project.files
+
+
+def traced(project: Project, document: str, row: str) -> Iterator[Check]:
+    """A row of TRACE.md: the sentence, and in each further column names of one kind."""
+    sentence, *cells = [cell.strip() for cell in row.strip("|").split("|")]
+    if len(cells) != 4:
+        yield Check(document, row, "a row of five columns", False)
+    yield from strict(project, document, sentence)
+    for column, cell in zip((defined, contracted, proved, tested), cells):
+        yield from (Check(document, *found) for found in column(project, cell) if found[0] not in OTHER[document])
 
 
 def trace(project: Project, document: str, text: str) -> Iterator[Check]:
-    """In TRACE.md the columns say what a name is."""
-    rows = [line for line in text.splitlines() if line.startswith("|")]
-    prose = "\n".join(line for line in text.splitlines() if not line.startswith("|"))
-    yield from strict(project, document, prose)
-    for row in rows:
-        cells = [cell.strip() for cell in row.strip("|").split("|")]
-        if len(cells) != 5:
-            yield Check(document, row, "a row of five columns", False)
-        elif cells[1] != "definition" and set(cells[1]) != {"-"}:
-            columns = zip((defined, contracted, proved, tested), cells[1:])
-            for name, expected, found in (c for column, cell in columns for c in column(project, cell)):
-                if name not in OTHER[document]:
-                    yield Check(document, name, expected, found)
+    """In TRACE.md the columns of the tables say what a name is."""
+    lines = text.splitlines()
+    yield from strict(project, document, "\n".join(line for line in lines if not line.startswith("|")))
+    for line in lines:
+        if line.startswith("|") and not HEADING.match(line):
+            yield from traced(project, document, line)
 
 
 def loose(project: Project, document: str, text: str) -> Iterator[Check]:
