@@ -236,6 +236,7 @@ orderCases =
 --   1 from 0 to 1, guard 1 / argument 0: if 1 / argument 1,
 --   for (local 0 := 1; local 0 < 3; local 0 := local 0 + 1) { v0 := v0 + local 0; v1 := v1 × local 0 },
 --   else { v0 := 5; return v0 }
+--   2 from 1 to 0: return v1
 abbrev branching : (limit : ℕ) → List ℕ
 branching u =
     encoded 1
@@ -246,9 +247,10 @@ branching u =
     (ifElse (binary 3 (constant 1) (argument 1))
     (for (set 256 (constant 1)) (binary 7 (local 0) (constant 3)) (set 256 (binary 0 (local 0) (constant 1)))
     (block (set 0 (binary 0 (variable 0) (local 0)) ++ set 1 (binary 2 (variable 1) (local 0)))))
-    (block (set 0 (constant 5) ++ return (variable 0)))))
+    (block (set 0 (constant 5) ++ return (variable 0))))
+    ++ transition 2 1 0 (constant 1) (return (variable 1)))
 
--- if-else makes 6 and 7, for 8, 9 and 10, its block 11, the other part's block 12
+-- The first transition makes 5; if-else 6 and 7; for 8, 9 and 10, its block 11; the other part's block 12; the second transition 13.
 abbrev branchingSteps : List ℕ
 branchingSteps =
     (4 ∷ 0 ∷ 4 ∷ 0 ∷ 20 ∷ [])
@@ -264,6 +266,8 @@ branchingSteps =
     ++ (10 ∷ 8 ∷ 4 ∷ 0 ∷ 136 ∷ [])
     ++ (7 ∷ 12 ∷ 4 ∷ 0 ∷ 218 ∷ [])
     ++ (12 ∷ 1 ∷ 7 ∷ 0 ∷ 232 ∷ [])
+    ++ (1 ∷ 13 ∷ 1 ∷ 2 ∷ 250 ∷ [])
+    ++ (13 ∷ 0 ∷ 7 ∷ 0 ∷ 258 ∷ [])
 
 abbrev branched : (state v0 v1 : ℕ) → State
 branched s x y = record { state = s; variables = x ∷ y ∷ replicate 14 0; balances = 5 ∷ replicate 7 0; own = 0 }
@@ -277,9 +281,10 @@ branches u calls os = (calling (branching u) branchingSteps calls, alike (outcom
 
 unfoldable pub branchCases : List (Task × Result)
 branchCases =
-    (expanding (branching 12) (replicate 66 9), expanded (lent (counted.Steps 13) (branchingSteps ++ (9 ∷ []))))
+    (expanding (branching 12) (replicate 76 9), expanded (lent (counted.Steps 15) (branchingSteps ++ (9 ∷ []))))
     -- "if-else (condition, two statements)": the first part, with the limit just used up; the other part, which returns
-    ∷ branches 12 (branch 1 1 ∷ []) (outcome (done 12) (branched 1 3 8) ∷ [])
+    ∷ branches 12 (branch 1 1 ∷ callOf 2 0 0 (replicate 4 0) ∷ [])
+    (outcome (done 12) (branched 1 3 8) ∷ outcome (gave 8 2) (branched 0 3 8) ∷ [])
     ∷ branches 12 (branch 1 2 ∷ []) (outcome (gave 5 4) (branched 1 5 4) ∷ [])
     -- "If the limit is already used, the call is refused instead."
     ∷ branches 11 (branch 1 1 ∷ []) (outcome (refused 26 11) (branched 0 0 4) ∷ [])
