@@ -98,6 +98,7 @@ expressionCases =
     ∷ applied 9 9 2 (Is 1)
     ∷ applied 9 9 0 (Is 0)
     ∷ applied 9 0 9 (Is 0)
+    ∷ applied 9 0 0 (Is 0)
     ∷ applied 10 9 2 (Is 1)
     ∷ applied 10 9 0 (Is 1)
     ∷ applied 10 0 9 (Is 1)
@@ -150,7 +151,7 @@ depositSteps =
     ++ (14 ∷ 15 ∷ 4 ∷ 0 ∷ 188 ∷ [])
     ++ (15 ∷ 0 ∷ 7 ∷ 0 ∷ 200 ∷ [])
 
--- its records; the variables begin with those given
+-- its records, by their six variables, two balances and own balance
 abbrev deposited : (state : ℕ) (six : List ℕ) (balance0 balance1 own : ℕ) → State
 deposited s vs b c w = record { state = s; variables = vs ++ replicate 10 0; balances = b ∷ c ∷ replicate 6 0; own = w }
 
@@ -183,8 +184,8 @@ depositCases =
     )
     ∷ []
 
--- A call of name 7 to the deposit agreement, refused before anything is charged. State 1 is not where that name leads from, and 61
--- coins are more than account 1 has.
+-- A call of name 7 to the deposit agreement, refused before anything is charged. That name leads from state 2 alone, and 61 coins
+-- are more than account 1 has.
 abbrev denied : (sender coins : ℕ) (words : List ℕ) → State → (unexpanded expanded : ℕ) → Task × Result
 denied k c words s n m = (
   callingFrom s deposit words (callOf 7 k c (0 ∷ 0 ∷ 0 ∷ 0 ∷ []) ∷ []),
@@ -250,7 +251,7 @@ branching u =
     (block (set 0 (constant 5) ++ return (variable 0))))
     ++ transition 2 1 0 (constant 1) (return (variable 1)))
 
--- The first transition makes 5; if-else 6 and 7; for 8, 9 and 10, its block 11; the other part's block 12; the second transition 13.
+-- The first transition makes 5, if-else 6 and 7, for 8 to 10, its block 11, the other part's block 12, the second transition 13.
 abbrev branchingSteps : List ℕ
 branchingSteps =
     (4 ∷ 0 ∷ 4 ∷ 0 ∷ 20 ∷ [])
@@ -334,7 +335,7 @@ unjudged i words n = (judging failing i words, ruled (lent (judgement (verdict.R
 
 unfoldable pub startCases : List (Task × Result)
 startCases =
-    -- "27: initial action failed or used up its units"; "a refused start hands back an all-zero state record", which is then unfit
+    -- "27: initial action failed or used up its units"; "a refused start hands back an all-zero state record", which is unfit
     (
       calling failing failingSteps (callOf 1 0 0 (replicate 4 0) ∷ []),
       alike (outcome (refused 27 2) zeros ∷ outcome (refused 20 0) zeros ∷ []),
