@@ -19,7 +19,7 @@ use Rattle.rules.specs.declared.Verdict.the-variants as verdict
 use Rattle.rules.specs.Basics.{each}
 use Rattle.rules.specs.Text.{text}
 use Rattle.rules.specs.Encoding.{word16, word32, encoded, constant, variable, local, argument, context, binary, not}
-use Rattle.rules.specs.Encoding.{set, transfer, require, return, block, ifElse, while, for}
+use Rattle.rules.specs.Encoding.{set, transfer, require, return, block, ifThen, ifElse, while, for}
 use Rattle.rules.specs.Encoding.{transition, row, payingRow, always, rule}
 use Rattle.rules.specs.Accepting.{refusalAt, refusal, lent}
 use Rattle.rules.specs.Calling.{outcome}
@@ -113,7 +113,7 @@ expressionCases =
     ∷ []
 
 -- Contexts, arguments, locals and transfers. Three states, six variables, two accounts with 50 and 60, start 1, limit 10.
---   initial: { v3 := context 3; return 9 }
+--   initial: { v3 := context 3; v0 := context 0 + (context 1 + (context 2 + argument 0)); return 9 }
 --   fallback: transfer argument 1 to account argument 0
 --   7 from 2 to 0, guard context 2 = 35: { transfer argument 1 to account argument 0; v0 to v3 := contexts 0 to 3;
 --   local 7 := argument 2; v4 := argument 3; v5 := local 0; return local 7 }
@@ -121,7 +121,10 @@ abbrev deposit : List ℕ
 deposit =
     encoded 1
     ((3 ∷ 6 ∷ 2 ∷ 1 ∷ 0 ∷ 0 ∷ word16 10 ++ word32 1 ++ word32 50 ++ word32 60)
-    ++ block (set 3 (context 3) ++ return (constant 9))
+    ++ block
+    (set 3 (context 3)
+    ++ set 0 (binary 0 (context 0) (binary 0 (context 1) (binary 0 (context 2) (argument 0))))
+    ++ return (constant 9))
     ++ transfer (argument 0) (argument 1)
     ++ transition 7 2 0 (binary 5 (context 2) (constant 35))
     (block
@@ -138,18 +141,19 @@ deposit =
 abbrev depositSteps : List ℕ
 depositSteps =
     (5 ∷ 6 ∷ 4 ∷ 0 ∷ 28 ∷ [])
-    ++ (6 ∷ 1 ∷ 7 ∷ 0 ∷ 40 ∷ [])
-    ++ (4 ∷ 3 ∷ 5 ∷ 0 ∷ 52 ∷ [])
-    ++ (2 ∷ 7 ∷ 1 ∷ 7 ∷ 76 ∷ [])
-    ++ (7 ∷ 8 ∷ 5 ∷ 0 ∷ 100 ∷ [])
-    ++ (8 ∷ 9 ∷ 4 ∷ 0 ∷ 116 ∷ [])
-    ++ (9 ∷ 10 ∷ 4 ∷ 0 ∷ 128 ∷ [])
-    ++ (10 ∷ 11 ∷ 4 ∷ 0 ∷ 140 ∷ [])
-    ++ (11 ∷ 12 ∷ 4 ∷ 0 ∷ 152 ∷ [])
-    ++ (12 ∷ 13 ∷ 4 ∷ 0 ∷ 164 ∷ [])
-    ++ (13 ∷ 14 ∷ 4 ∷ 0 ∷ 176 ∷ [])
-    ++ (14 ∷ 15 ∷ 4 ∷ 0 ∷ 188 ∷ [])
-    ++ (15 ∷ 0 ∷ 7 ∷ 0 ∷ 200 ∷ [])
+    ++ (6 ∷ 7 ∷ 4 ∷ 0 ∷ 40 ∷ [])
+    ++ (7 ∷ 1 ∷ 7 ∷ 0 ∷ 88 ∷ [])
+    ++ (4 ∷ 3 ∷ 5 ∷ 0 ∷ 100 ∷ [])
+    ++ (2 ∷ 8 ∷ 1 ∷ 7 ∷ 124 ∷ [])
+    ++ (8 ∷ 9 ∷ 5 ∷ 0 ∷ 148 ∷ [])
+    ++ (9 ∷ 10 ∷ 4 ∷ 0 ∷ 164 ∷ [])
+    ++ (10 ∷ 11 ∷ 4 ∷ 0 ∷ 176 ∷ [])
+    ++ (11 ∷ 12 ∷ 4 ∷ 0 ∷ 188 ∷ [])
+    ++ (12 ∷ 13 ∷ 4 ∷ 0 ∷ 200 ∷ [])
+    ++ (13 ∷ 14 ∷ 4 ∷ 0 ∷ 212 ∷ [])
+    ++ (14 ∷ 15 ∷ 4 ∷ 0 ∷ 224 ∷ [])
+    ++ (15 ∷ 16 ∷ 4 ∷ 0 ∷ 236 ∷ [])
+    ++ (16 ∷ 0 ∷ 7 ∷ 0 ∷ 248 ∷ [])
 
 -- its records, by their six variables, two balances and own balance
 abbrev deposited : (state : ℕ) (six : List ℕ) (balance0 balance1 own : ℕ) → State
@@ -164,18 +168,20 @@ pay s c a x = callOf 8 s c (a ∷ x ∷ 0 ∷ 0 ∷ [])
 
 unfoldable pub depositCases : List (Task × Result)
 depositCases =
-    -- "its return value is dropped, its units are reported"; context 3 is then the start state
-    (calling deposit depositSteps [], alike (outcome (done 2) (deposited 1 (0 ∷ 0 ∷ 0 ∷ 1 ∷ 0 ∷ 0 ∷ []) 50 60 0) ∷ []))
+    -- "the initial action runs with sender 0, no coins, zero arguments; its return value is dropped, its units are reported"; its
+    -- context 3 is the start state
+    (calling deposit depositSteps [], alike (outcome (done 3) (deposited 1 (0 ∷ 0 ∷ 0 ∷ 1 ∷ 0 ∷ 0 ∷ []) 50 60 0) ∷ []))
     -- "0 sender, 1 coins paid, 2 agreement's own balance, 3 state before the call": 1, 30, 35 at the guard and 25 after the
     -- transfer, 2. "Locals begin at zero." "Return ends the action normally with its value." The limit is used up.
     ∷ (
-      callingFrom waiting deposit (depositSteps ++ (0 ∷ [])) (callOf 7 1 30 (0 ∷ 10 ∷ 70 ∷ 80 ∷ []) ∷ []),
+      callingFrom waiting deposit depositSteps (callOf 7 1 30 (0 ∷ 10 ∷ 70 ∷ 80 ∷ []) ∷ []),
       alike (outcome (gave 70 10) (deposited 0 (1 ∷ 30 ∷ 25 ∷ 2 ∷ 80 ∷ 0 ∷ []) 55 30 25) ∷ []),
     )
     -- "it fails if the account is not below A or the amount exceeds the own balance"; "the fallback action runs and the state
-    -- stays"; "An action without a return answers 'no value'." The third call pays 3 and moves all 8.
+    -- stays"; "An action without a return answers 'no value'." The third call pays 3 and moves all 8. The words after the steps,
+    -- which would be a guard of the calls' name, are none.
     ∷ (
-      callingFrom waiting deposit depositSteps (pay 0 0 2 5 ∷ pay 0 0 1 6 ∷ pay 0 3 1 8 ∷ []),
+      callingFrom waiting deposit (depositSteps ++ (2 ∷ 8 ∷ 1 ∷ 8 ∷ 124 ∷ [])) (pay 0 0 2 5 ∷ pay 0 0 1 6 ∷ pay 0 3 1 8 ∷ []),
       alike
           (outcome (refused 25 1) waiting
           ∷ outcome (refused 25 1) waiting
@@ -214,14 +220,14 @@ totalOver = deposited 1 (replicate 6 0) 4_294_967_295 60 51
 
 -- the steps without their last word
 abbrev short : List ℕ
-short = take 64 depositSteps
+short = take 69 depositSteps
 
 unfoldable pub orderCases : List (Task × Result)
 orderCases =
     -- "From 6 on the smaller number goes first": each call has the fault of its number and those of all greater ones.
     denied 2 61 short stateBeyond 9 9
     ∷ denied 1 61 short stateBeyond 20 11
-    ∷ denied 1 61 (short ++ (201 ∷ [])) stateBeyond 20 12
+    ∷ denied 1 61 (short ++ (249 ∷ [])) stateBeyond 20 12
     ∷ denied 1 61 depositSteps stateBeyond 20 20
     ∷ denied 1 61 depositSteps fit 21 21
     ∷ denied 1 60 depositSteps fit 22 22
@@ -234,9 +240,11 @@ orderCases =
 -- If-else and for. Two states, two variables, one account with 5.
 --   initial: v1 := 4
 --   fallback: require 0
---   1 from 0 to 1, guard 1 / argument 0: if 1 / argument 1,
---   for (local 0 := 1; local 0 < 3; local 0 := local 0 + 1) { v0 := v0 + local 0; v1 := v1 × local 0 },
---   else { v0 := 5; return v0 }
+--   1 from 0 to 1, guard 1 / argument 0: {
+--     if 1 / argument 1,
+--       for (local 0 := 1; local 0 < 3; local 0 := local 0 + 1) { v0 := v0 + local 0; if argument 2, return local 0 }
+--     else { v0 := 5; if argument 2, return v0 };
+--     v1 := v1 × v0 }
 --   2 from 1 to 0: return v1
 abbrev branching : (limit : ℕ) → List ℕ
 branching u =
@@ -245,36 +253,44 @@ branching u =
     ++ set 1 (constant 4)
     ++ require (constant 0)
     ++ transition 1 0 1 (binary 3 (constant 1) (argument 0))
+    (block
     (ifElse (binary 3 (constant 1) (argument 1))
     (for (set 256 (constant 1)) (binary 7 (local 0) (constant 3)) (set 256 (binary 0 (local 0) (constant 1)))
-    (block (set 0 (binary 0 (variable 0) (local 0)) ++ set 1 (binary 2 (variable 1) (local 0)))))
-    (block (set 0 (constant 5) ++ return (variable 0))))
+    (block (set 0 (binary 0 (variable 0) (local 0)) ++ ifThen (argument 2) (return (local 0)))))
+    (block (set 0 (constant 5) ++ ifThen (argument 2) (return (variable 0))))
+    ++ set 1 (binary 2 (variable 1) (variable 0))))
     ++ transition 2 1 0 (constant 1) (return (variable 1)))
 
--- The first transition makes 5, if-else 6 and 7, for 8 to 10, its block 11, the other part's block 12, the second transition 13.
+-- The first transition makes 5, its block 6, if-else 7 and 8, for 9 to 11, its body 12 and 13, the other part 14 and 15; the
+-- second transition makes 16.
 abbrev branchingSteps : List ℕ
 branchingSteps =
     (4 ∷ 0 ∷ 4 ∷ 0 ∷ 20 ∷ [])
     ++ (3 ∷ 2 ∷ 6 ∷ 0 ∷ 34 ∷ [])
     ++ (0 ∷ 5 ∷ 1 ∷ 1 ∷ 54 ∷ [])
-    ++ (5 ∷ 6 ∷ 2 ∷ 0 ∷ 78 ∷ [])
-    ++ (5 ∷ 7 ∷ 3 ∷ 0 ∷ 78 ∷ [])
-    ++ (6 ∷ 8 ∷ 4 ∷ 0 ∷ 102 ∷ [])
-    ++ (8 ∷ 9 ∷ 2 ∷ 0 ∷ 116 ∷ [])
-    ++ (8 ∷ 1 ∷ 3 ∷ 0 ∷ 116 ∷ [])
-    ++ (9 ∷ 11 ∷ 4 ∷ 0 ∷ 166 ∷ [])
-    ++ (11 ∷ 10 ∷ 4 ∷ 0 ∷ 190 ∷ [])
-    ++ (10 ∷ 8 ∷ 4 ∷ 0 ∷ 136 ∷ [])
-    ++ (7 ∷ 12 ∷ 4 ∷ 0 ∷ 218 ∷ [])
-    ++ (12 ∷ 1 ∷ 7 ∷ 0 ∷ 232 ∷ [])
-    ++ (1 ∷ 13 ∷ 1 ∷ 2 ∷ 250 ∷ [])
-    ++ (13 ∷ 0 ∷ 7 ∷ 0 ∷ 258 ∷ [])
+    ++ (5 ∷ 7 ∷ 2 ∷ 0 ∷ 82 ∷ [])
+    ++ (5 ∷ 8 ∷ 3 ∷ 0 ∷ 82 ∷ [])
+    ++ (7 ∷ 9 ∷ 4 ∷ 0 ∷ 106 ∷ [])
+    ++ (9 ∷ 10 ∷ 2 ∷ 0 ∷ 120 ∷ [])
+    ++ (9 ∷ 6 ∷ 3 ∷ 0 ∷ 120 ∷ [])
+    ++ (10 ∷ 12 ∷ 4 ∷ 0 ∷ 170 ∷ [])
+    ++ (12 ∷ 13 ∷ 2 ∷ 0 ∷ 198 ∷ [])
+    ++ (12 ∷ 11 ∷ 3 ∷ 0 ∷ 198 ∷ [])
+    ++ (13 ∷ 1 ∷ 7 ∷ 0 ∷ 204 ∷ [])
+    ++ (11 ∷ 9 ∷ 4 ∷ 0 ∷ 140 ∷ [])
+    ++ (8 ∷ 14 ∷ 4 ∷ 0 ∷ 218 ∷ [])
+    ++ (14 ∷ 15 ∷ 2 ∷ 0 ∷ 236 ∷ [])
+    ++ (14 ∷ 6 ∷ 3 ∷ 0 ∷ 236 ∷ [])
+    ++ (15 ∷ 1 ∷ 7 ∷ 0 ∷ 242 ∷ [])
+    ++ (6 ∷ 1 ∷ 4 ∷ 0 ∷ 252 ∷ [])
+    ++ (1 ∷ 16 ∷ 1 ∷ 2 ∷ 284 ∷ [])
+    ++ (16 ∷ 0 ∷ 7 ∷ 0 ∷ 292 ∷ [])
 
 abbrev branched : (state v0 v1 : ℕ) → State
 branched s x y = record { state = s; variables = x ∷ y ∷ replicate 14 0; balances = 5 ∷ replicate 7 0; own = 0 }
 
-abbrev branch : (argument0 argument1 : ℕ) → Call
-branch x y = callOf 1 0 0 (x ∷ y ∷ 0 ∷ 0 ∷ [])
+abbrev branch : (argument0 argument1 argument2 : ℕ) → Call
+branch x y z = callOf 1 0 0 (x ∷ y ∷ z ∷ 0 ∷ [])
 
 -- the calls' outcomes after the fresh start
 abbrev branches : (limit : ℕ) → List Call → List Outcome → Task × Result
@@ -282,21 +298,25 @@ branches u calls os = (calling (branching u) branchingSteps calls, alike (outcom
 
 unfoldable pub branchCases : List (Task × Result)
 branchCases =
-    (expanding (branching 12) (replicate 76 9), expanded (lent (counted.Steps 15) (branchingSteps ++ (9 ∷ []))))
-    -- "if-else (condition, two statements)": the first part, with the limit just used up; the other part, which returns
-    ∷ branches 12 (branch 1 1 ∷ callOf 2 0 0 (replicate 4 0) ∷ [])
-    (outcome (done 12) (branched 1 3 8) ∷ outcome (gave 8 2) (branched 0 3 8) ∷ [])
-    ∷ branches 12 (branch 1 2 ∷ []) (outcome (gave 5 4) (branched 1 5 4) ∷ [])
+    (expanding (branching 13) (replicate 101 9), expanded (lent (counted.Steps 20) (branchingSteps ++ (9 ∷ []))))
+    -- The for runs twice and is tested three times; the limit is just used up. Then the other transition.
+    ∷ branches 13 (branch 1 1 0 ∷ callOf 2 0 0 (replicate 4 0) ∷ [])
+    (outcome (done 13) (branched 1 3 12) ∷ outcome (gave 12 2) (branched 0 3 12) ∷ [])
+    -- the other part of the if-else
+    ∷ branches 13 (branch 1 2 0 ∷ []) (outcome (done 5) (branched 1 5 20) ∷ [])
+    -- "Return ends the action normally with its value.": inside the for, and inside the other part
+    ∷ branches 13 (branch 1 1 7 ∷ []) (outcome (gave 1 7) (branched 1 1 4) ∷ [])
+    ∷ branches 13 (branch 1 2 7 ∷ []) (outcome (gave 5 5) (branched 1 5 4) ∷ [])
     -- "If the limit is already used, the call is refused instead."
-    ∷ branches 11 (branch 1 1 ∷ []) (outcome (refused 26 11) (branched 0 0 4) ∷ [])
+    ∷ branches 12 (branch 1 1 0 ∷ []) (outcome (refused 26 12) (branched 0 0 4) ∷ [])
     -- "23: guard false. 24: guard failed. 25: action failed.", here by the condition
-    ∷ branches 12 (branch 2 1 ∷ branch 0 1 ∷ branch 1 0 ∷ [])
+    ∷ branches 13 (branch 2 1 0 ∷ branch 0 1 0 ∷ branch 1 0 0 ∷ [])
     (outcome (refused 23 1) (branched 0 0 4)
     ∷ outcome (refused 24 1) (branched 0 0 4)
     ∷ outcome (refused 25 2) (branched 0 0 4)
     ∷ [])
     -- "of 24 to 26 the one met first in running": the condition would fail, but there is no unit for it
-    ∷ branches 1 (branch 1 0 ∷ []) (outcome (refused 26 1) (branched 0 0 4) ∷ [])
+    ∷ branches 1 (branch 1 0 0 ∷ []) (outcome (refused 26 1) (branched 0 0 4) ∷ [])
     ∷ []
 
 -- Starts that are refused. One state, one variable, one account with 5, limit 3; the fallback requires 0; the rule holds always.
@@ -360,23 +380,23 @@ startCases =
     ∷ (reporting failing, printed (text "steps 3\nstart refused 27\n"))
     ∷ []
 
--- Rules. Five states, one variable, two accounts with 10 and 20, start 1, depth 2, limit 9.
+-- Rules. Eight states, one variable, two accounts with 5 and 20, start 1, depth 2, limit 9.
 --   initial: v0 := context 3
 --   fallback: require 0
---   1 from 1 to 4: v0 := argument 2
---   1 from 4 to 0: v0 := argument 2
--- Rows: 9, which is refused; 1 by account 1 with 3 coins and the arguments 5, 6, 7, 8. Rules: context 2 < context 3; 6 − v0;
+--   1 from 1 to 7: v0 := argument 2
+--   1 from 7 to 0: v0 := argument 2
+-- Rows: 9, which is refused; 1 by account 1 with 6 coins and the arguments 1, 2, 7, 3. Rules: context 2 < context 3; 6 − v0;
 -- 1 / context 2; context 2; 1 not after 1; 1 only after 1; then what is given.
 abbrev ruling : (bound : ℕ) (more : List ℕ) → List ℕ
 ruling b more =
     encoded 1
-    ((5 ∷ 1 ∷ 2 ∷ 1 ∷ 2 ∷ 0 ∷ word16 9 ++ word32 b ++ word32 10 ++ word32 20)
+    ((8 ∷ 1 ∷ 2 ∷ 1 ∷ 2 ∷ 0 ∷ word16 9 ++ word32 b ++ word32 5 ++ word32 20)
     ++ set 0 (context 3)
     ++ require (constant 0)
-    ++ transition 1 1 4 (constant 1) (set 0 (argument 2))
-    ++ transition 1 4 0 (constant 1) (set 0 (argument 2))
+    ++ transition 1 1 7 (constant 1) (set 0 (argument 2))
+    ++ transition 1 7 0 (constant 1) (set 0 (argument 2))
     ++ row 9 0
-    ++ payingRow 1 1 3 (5 ∷ 6 ∷ 7 ∷ 8 ∷ [])
+    ++ payingRow 1 1 6 (1 ∷ 2 ∷ 7 ∷ 3 ∷ [])
     ++ always (binary 7 (context 2) (context 3))
     ++ always (binary 1 (constant 6) (variable 0))
     ++ always (binary 3 (constant 1) (context 2))
@@ -387,20 +407,20 @@ ruling b more =
 
 abbrev rulingSteps : List ℕ
 rulingSteps =
-    (7 ∷ 1 ∷ 4 ∷ 0 ∷ 24 ∷ [])
-    ++ (6 ∷ 5 ∷ 6 ∷ 0 ∷ 36 ∷ [])
-    ++ (1 ∷ 8 ∷ 1 ∷ 1 ∷ 56 ∷ [])
-    ++ (8 ∷ 4 ∷ 4 ∷ 0 ∷ 64 ∷ [])
-    ++ (4 ∷ 9 ∷ 1 ∷ 1 ∷ 84 ∷ [])
-    ++ (9 ∷ 0 ∷ 4 ∷ 0 ∷ 92 ∷ [])
+    (10 ∷ 1 ∷ 4 ∷ 0 ∷ 24 ∷ [])
+    ++ (9 ∷ 8 ∷ 6 ∷ 0 ∷ 36 ∷ [])
+    ++ (1 ∷ 11 ∷ 1 ∷ 1 ∷ 56 ∷ [])
+    ++ (11 ∷ 7 ∷ 4 ∷ 0 ∷ 64 ∷ [])
+    ++ (7 ∷ 12 ∷ 1 ∷ 1 ∷ 84 ∷ [])
+    ++ (12 ∷ 0 ∷ 4 ∷ 0 ∷ 92 ∷ [])
 
 abbrev judges : (bound rule : ℕ) → Judged → Task × Result
 judges b i j = (judging (ruling b []) i (replicate 31 0), ruled (lent j (rulingSteps ++ (0 ∷ []))))
 
 unfoldable pub ruleCases : List (Task × Result)
 ruleCases =
-    -- Own balance and present state are 0 and 1, after one completed call 3 and 4, after two 6 and 0. Of the seven lists only the
-    -- last, 1 1, completes two.
+    -- "its context 3 is the present state": own balance and state are 0 and 1, after one completed call 6 and 7, after two 12 and
+    -- 0. Of the seven lists only the last, 1 1, completes two.
     judges 7 0 (judgement (verdict.Broken 7 2) (1 ∷ 1 ∷ replicate 6 0))
     -- "spent, the bound", which lies inside a length: 2 and 3 are the places of the lists of one row
     ∷ judges 2 0 (judgement (verdict.Spent 2) noRows)
@@ -418,8 +438,8 @@ ruleCases =
           (text
           "steps 6\nrule 0 spent 6\nrule 1 broken 3 1\nrule 2 broken 1\nrule 3 broken 1\nrule 4 spent 6\nrule 5 broken 3 1\n"),
     )
-    -- "A bad file prints `refused`, number, place": one more rule, at 272, names no transition
-    ∷ (reporting (ruling 7 (rule 2 1 9)), printed (text "refused 4 272\n"))
+    -- "A bad file prints `refused`, number, place": of two more rules the second, at 280, names no transition
+    ∷ (reporting (ruling 7 (rule 2 1 1 ++ rule 2 1 9)), printed (text "refused 4 280\n"))
     ∷ []
 
 -- k, k + 1 and on, n numbers
@@ -431,22 +451,22 @@ counted26 = record { state = 1; variables = counting 2 16; balances = counting 1
 
 -- a refusal with a place
 abbrev badField : Refusal
-badField = refusalAt 4 272
+badField = refusalAt 4 280
 
 -- the exported numbers: the refusal's number (0 for none) and place, then what was asked for
 unfoldable pub numberCases : List (Task × Result)
 numberCases =
     (ofRead (counted.Steps 6), numbers (0 ∷ 0 ∷ []))
-    ∷ (ofRead (counted.Refused badField), numbers (4 ∷ 272 ∷ []))
+    ∷ (ofRead (counted.Refused badField), numbers (4 ∷ 280 ∷ []))
     ∷ (ofExpanded (counted.Steps 6), numbers (0 ∷ 0 ∷ 6 ∷ []))
-    ∷ (ofExpanded (counted.Refused badField), numbers (4 ∷ 272 ∷ 0 ∷ []))
+    ∷ (ofExpanded (counted.Refused badField), numbers (4 ∷ 280 ∷ 0 ∷ []))
     ∷ (ofCalled (gave 70 10), numbers (0 ∷ 0 ∷ 1 ∷ 70 ∷ 10 ∷ []))
     ∷ (ofCalled (done 10), numbers (0 ∷ 0 ∷ 0 ∷ 0 ∷ 10 ∷ []))
-    ∷ (ofCalled (Refused badField 3), numbers (4 ∷ 272 ∷ 0 ∷ 0 ∷ 3 ∷ []))
+    ∷ (ofCalled (Refused badField 3), numbers (4 ∷ 280 ∷ 0 ∷ 0 ∷ 3 ∷ []))
     ∷ (ofJudged (judgement (verdict.Broken 7 2) (8 ∷ 9 ∷ replicate 6 0)), numbers (0 ∷ 0 ∷ 1 ∷ 7 ∷ 2 ∷ 8 ∷ 9 ∷ replicate 6 0))
     ∷ (ofJudged (judgement (verdict.Held 7) noRows), numbers (0 ∷ 0 ∷ 2 ∷ 7 ∷ 0 ∷ noRows))
     ∷ (ofJudged (judgement (verdict.Spent 6) noRows), numbers (0 ∷ 0 ∷ 3 ∷ 6 ∷ 0 ∷ noRows))
-    ∷ (ofJudged (judgement (verdict.Refused badField) noRows), numbers (4 ∷ 272 ∷ 0 ∷ 0 ∷ 0 ∷ noRows))
+    ∷ (ofJudged (judgement (verdict.Refused badField) noRows), numbers (4 ∷ 280 ∷ 0 ∷ 0 ∷ 0 ∷ noRows))
     ∷ (ofRecord counted26, numbers (counting 1 26))
     ∷ (toRecord (counting 1 26), recorded counted26)
     ∷ []
