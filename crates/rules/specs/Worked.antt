@@ -384,7 +384,7 @@ startCases =
 --   initial: v0 := context 3
 --   fallback: require 0
 --   1 from 1 to 7: v0 := argument 2
---   1 from 7 to 0: v0 := argument 2
+--   1 from 7 to 2: v0 := argument 2
 -- Rows: 9, which is refused; 1 by account 1 with 6 coins and the arguments 1, 2, 7, 3. Rules: context 2 < context 3; 6 − v0;
 -- 1 / context 2; context 2; 1 not after 1; 1 only after 1; then what is given.
 abbrev ruling : (bound : ℕ) (more : List ℕ) → List ℕ
@@ -394,7 +394,7 @@ ruling b more =
     ++ set 0 (context 3)
     ++ require (constant 0)
     ++ transition 1 1 7 (constant 1) (set 0 (argument 2))
-    ++ transition 1 7 0 (constant 1) (set 0 (argument 2))
+    ++ transition 1 7 2 (constant 1) (set 0 (argument 2))
     ++ row 9 0
     ++ payingRow 1 1 6 (1 ∷ 2 ∷ 7 ∷ 3 ∷ [])
     ++ always (binary 7 (context 2) (context 3))
@@ -412,7 +412,7 @@ rulingSteps =
     ++ (1 ∷ 11 ∷ 1 ∷ 1 ∷ 56 ∷ [])
     ++ (11 ∷ 7 ∷ 4 ∷ 0 ∷ 64 ∷ [])
     ++ (7 ∷ 12 ∷ 1 ∷ 1 ∷ 84 ∷ [])
-    ++ (12 ∷ 0 ∷ 4 ∷ 0 ∷ 92 ∷ [])
+    ++ (12 ∷ 2 ∷ 4 ∷ 0 ∷ 92 ∷ [])
 
 abbrev judges : (bound rule : ℕ) → Judged → Task × Result
 judges b i j = (judging (ruling b []) i (replicate 31 0), ruled (lent j (rulingSteps ++ (0 ∷ []))))
@@ -420,7 +420,7 @@ judges b i j = (judging (ruling b []) i (replicate 31 0), ruled (lent j (rulingS
 unfoldable pub ruleCases : List (Task × Result)
 ruleCases =
     -- "its context 3 is the present state": own balance and state are 0 and 1, after one completed call 6 and 7, after two 12 and
-    -- 0. Of the seven lists only the last, 1 1, completes two.
+    -- 2. Of the seven lists only the last, 1 1, completes two.
     judges 7 0 (judgement (verdict.Broken 7 2) (1 ∷ 1 ∷ replicate 6 0))
     -- "spent, the bound", which lies inside a length: 2 and 3 are the places of the lists of one row
     ∷ judges 2 0 (judgement (verdict.Spent 2) noRows)
