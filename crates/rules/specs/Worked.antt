@@ -178,8 +178,8 @@ depositCases =
       alike (outcome (gave 70 10) (deposited 0 (1 ∷ 30 ∷ 25 ∷ 2 ∷ 80 ∷ 0 ∷ []) 55 30 25) ∷ []),
     )
     -- "it fails if the account is not below A or the amount exceeds the own balance"; "the fallback action runs and the state
-    -- stays"; "An action without a return answers 'no value'." The third call pays 3 and moves all 8. The words after the steps,
-    -- which would be a guard of the calls' name, are none.
+    -- stays"; "An action without a return answers 'no value'." The third call pays 3 and moves all 8. The words after the steps
+    -- read like a guard of the calls' name and are no step.
     ∷ (
       callingFrom waiting deposit (depositSteps ++ (2 ∷ 8 ∷ 1 ∷ 8 ∷ 124 ∷ [])) (pay 0 0 2 5 ∷ pay 0 0 1 6 ∷ pay 0 3 1 8 ∷ []),
       alike
