@@ -123,8 +123,8 @@ unfolding page padded
 put-page {text} {after} {to} p =
     let end : to ≡ length text = omega (arith, p .next) in
     let bytes : after ≡ padded 1024 text =
-        sym (take-append-drop to after)
-        ∙ ap₂ (λ (l r : List ℕ). l ++ r) (p .front) (p .rest ∙ drop-zeros to 1024 ∙ ap (λ (k : ℕ). zeros (1024 - k)) end) in
+    sym (take-append-drop to after)
+    ∙ ap₂ (λ (l r : List ℕ). l ++ r) (p .front) (p .rest ∙ drop-zeros to 1024 ∙ ap (λ (k : ℕ). zeros (1024 - k)) end) in
     λ i. record { bytes = bytes i; length = end i }
 
 pub decimal-short : (n : ℕ) → length (decimal n) ≤ 10
