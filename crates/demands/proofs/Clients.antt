@@ -43,7 +43,7 @@ clients-cannot-tell file words a calls seen seenExpanded e h unexpanded expanded
     let kept = shapes-kept file words in
     let fresh = kept (start file .state) noCall in
     let plain : seen ≡ map seenOf (runList file calls) =
-        session-seen (call file) (λ s k. kept s k .2) (start file) (fresh .0) unexpanded in
+    session-seen (call file) (λ s k. kept s k .2) (start file) (fresh .0) unexpanded in
     let stepped : seenExpanded ≡ map seenOf (runListExpanded file words calls) =
-        session-seen (callExpanded file words) (λ s k. kept s k .3) (startExpanded file words) (fresh .1) expanded in
+    session-seen (callExpanded file words) (λ s k. kept s k .3) (startExpanded file words) (fresh .1) expanded in
     (stepped ∙ ap (map seenOf) (forms-agree file words a calls e h) ∙ sym plain, plain)

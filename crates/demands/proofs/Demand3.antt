@@ -84,9 +84,11 @@ module _ (file : List ℕ) (a : Agreement) (e : fileOf file ≡ good a) where
       → Exact file a r (λ v. say (ruling a r) ≡ say v) (written a words)
   exact say tells r words =
       let begun : beginsWith (written a words) (table (expansion a)) ≡ true = written-begins a words in
-      let same : breakingExpanded file (written a words) a r ≡ breaking a r = fun-ext (breaking-same (written a words) begun r) in
-      (begun, λ v.
-      rw same (λ said. verdicts-exact a r v .0 (tells (ruling a r) v said), λ right. ap say (verdicts-exact a r v .1 right)))
+      let same : breakingExpanded file (written a words) a r ≡ breaking a r = fun-ext (breaking-same (written a words) begun r) in (
+        begun,
+        λ v.
+            rw same (λ said. verdicts-exact a r v .0 (tells (ruling a r) v said), λ right. ap say (verdicts-exact a r v .1 right)),
+      )
 
   module _ (words : List ℕ) (i : ℕ) (r : Rule) (h : Judgeable file words a i r) where
     says : verdict file i words ≡ lent (judgedOf (ruling a r)) (written a words)

@@ -12,11 +12,12 @@ use native.Mathlib.Nat.{mod-eq-of-lt, pow-suc, mul-comm}
 use native.Mathlib.Omega.{arith}
 use Rattle.rules.specs.Basics.{if_then_else_, joined, each, padded}
 use Rattle.rules.specs.Reporting.{digits, decimal, spaced}
-use Rattle.reporter.specs.Texts.{Put}
+use Rattle.reporter.specs.declared.Page.{Page}
+use Rattle.reporter.specs.Texts.{Put, page}
 
 -- two lists that are the same from one place on are so from a later one on
-later : (mid n : ℕ) {to : ℕ} {x y : List ℕ} → to ≡ mid + n → drop mid y ≡ drop mid x → drop to y ≡ drop to x
-later mid n {x = x} {y = y} e h =
+later : (mid n : ℕ) {to : ℕ} (x y : List ℕ) → to ≡ mid + n → drop mid y ≡ drop mid x → drop to y ≡ drop to x
+later mid n x y e h =
     ap (λ (k : ℕ). drop k y) e ∙ sym (drop-drop n mid y) ∙ ap (drop n) h ∙ drop-drop n mid x ∙ ap (λ (k : ℕ). drop k x) (sym e)
 
 pub then-put : {at mid to : ℕ} {a b x y z : List ℕ} → Put at a x y mid → Put mid b y z to → Put at (a ++ b) x z to
@@ -25,7 +26,7 @@ then-put {at} {mid} {to} {a} {b} {x} {y} {z} p q =
       next = omega (arith, p .next, q .next, length-append a b);
       size = q .size ∙ p .size;
       front = q .front ∙ ap (λ (l : List ℕ). l ++ b) (p .front) ∙ append-assoc (take at x) a b;
-      rest = q .rest ∙ later mid (length b) (q .next) (p .rest);
+      rest = q .rest ∙ later mid (length b) x y (q .next) (p .rest);
     }
 
 pub put-none : (at : ℕ) (x : List ℕ) → Put at [] x x at
@@ -109,17 +110,22 @@ left-one n i m d {ds} less h e l =
 
 -- ---- a text at the front of zeros
 
-drop-zeros : (n m : ℕ) → drop n (replicate m 0) ≡ replicate (m - n) 0
-drop-zeros zero m = ap (λ (k : ℕ). replicate k 0) (omega arith)
-drop-zeros (suc n) zero = ap (λ (k : ℕ). replicate k 0) (omega arith)
-drop-zeros (suc n) (suc m) = drop-zeros n m ∙ ap (λ (k : ℕ). replicate k 0) (omega arith)
+abbrev zeros : ℕ → List ℕ
+zeros n = replicate n 0
 
-pub put-page : {text after : List ℕ} {to : ℕ} → Put 0 text (replicate 1024 0) after to → after ≡ padded 1024 text
-unfolding padded
+drop-zeros : (n m : ℕ) → drop n (zeros m) ≡ zeros (m - n)
+drop-zeros zero m = let z : m ≡ m - 0 = omega arith in ap zeros z
+drop-zeros (suc n) zero = let z : 0 ≡ 0 - suc n = omega arith in ap zeros z
+drop-zeros (suc n) (suc m) = let z : m - n ≡ suc m - suc n = omega arith in drop-zeros n m ∙ ap zeros z
+
+pub put-page : {text after : List ℕ} {to : ℕ} → Put 0 text (zeros 1024) after to → record { bytes = after; length = to } ≡ page text
+unfolding page padded
 put-page {text} {after} {to} p =
-    let z : to ≡ length text = omega (arith, p .next) in
+    let end : to ≡ length text = omega (arith, p .next) in
+    let bytes : after ≡ padded 1024 text =
     sym (take-append-drop to after)
-    ∙ ap₂ (λ (l r : List ℕ). l ++ r) (p .front) (p .rest ∙ drop-zeros to 1024 ∙ ap (λ (k : ℕ). replicate (1024 - k) 0) z)
+    ∙ ap₂ (λ (l r : List ℕ). l ++ r) (p .front) (p .rest ∙ drop-zeros to 1024 ∙ ap (λ (k : ℕ). zeros (1024 - k)) end) in
+    λ i. record { bytes = bytes i; length = end i }
 
 pub decimal-short : (n : ℕ) → length (decimal n) ≤ 10
 unfolding decimal

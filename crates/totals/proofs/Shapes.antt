@@ -46,8 +46,7 @@ pub shapes-kept : ShapesKept
 unfolding refusedStart refusedCall
 shapes-kept file words s k =
     let Fine : Outcome → Type 0 = λ o. Shaped (o .state) in
-    let started = start-shaped file in
-    (
+    let started = start-shaped file in (
       started,
       start-expanded Fine file words (λ _. zero-shaped) started,
       call-shaped file s k,

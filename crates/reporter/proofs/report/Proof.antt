@@ -5,16 +5,12 @@ use native.Mathlib.Omega.{arith}
 use borrow.Author.Needs.{needs}
 use Rattle.reporter.proofs.report.Statement.{statement}
 use Rattle.reporter.proofs.report.Tie as tie
-use Rattle.reporter.specs.Texts.{page}
 use Rattle.reporter.proofs.Texts.{put-page}
 
 returns : tie.Need-returns
-unfolding page
 returns c =
     let p = c .before .put-report .ensures in
-    let text = put-page (p .0) in
-    (λ i. record { bytes = text i; length = p .0 .next i },
-    (omega (arith, p .1, p .0 .size), sym (length-take-le (c .before .put-report .result) _ (omega (arith, p .1, p .0 .size)))))
+    (put-page (p .0), (omega (arith, p .1, p .0 .size), sym (length-take-le (c .before .put-report .result) _ (omega (arith, p .1, p .0 .size)))))
 
 pub report-spec : {M : Type 1} → statement M
 report-spec =
