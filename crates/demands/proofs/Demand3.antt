@@ -1,11 +1,13 @@
 -- Demand 3, whole (demand-3): the agreement of both forms and the exactness of rulings, put together. A list breaks a rule in its
 -- expanded run exactly if it does so in its unexpanded one (breaking-same), and an answer's numbers tell its ruling (numbers-tell),
--- so that the exported verdict is exact too (clients-verdict-exact).
+-- so that the exported verdict is exact too (clients-verdict-exact). Words that were expanded into begin with the expansion
+-- (expansion-begins).
 use mathlib.Core.Path.{_≡_, refl, sym, ap, ap₂, _∙_, fun-ext}
 use Prim.Native.Nat.{ℕ, _-_}
 use native.Mathlib.Omega.{arith}
 use mathlib.Core.Bool.{true}
 use mathlib.Core.List.{List}
+use mathlib.Core.Logic.{_↔_}
 use lib.ListN.{length, take, replicate}
 use lib.Seq.{take-at}
 use Rattle.rules.specs.declared.Call.{Call}
@@ -14,14 +16,14 @@ use Rattle.rules.specs.declared.State.{State}
 use Rattle.rules.specs.Basics.{padded}
 use Rattle.rules.specs.Syntax.{Rule, Agreement}
 use Rattle.rules.specs.Expanding.{expansion, table}
-use Rattle.rules.specs.Accepting.{good, fileOf, onFile, lent, written}
+use Rattle.rules.specs.Accepting.{good, fileOf, onFile, lent, written, expandFile}
 use Rattle.rules.specs.Calling.{startTree, callTree, start, call}
 use Rattle.rules.specs.Stepping.{beginsWith, startExpanded, callExpanded}
 use Rattle.rules.specs.Judging.{Ruling, broken, held, spent, breaks, breaksRun, breaksExpanded, breaking, breakingExpanded, rowsAt}
 use Rattle.rules.specs.Judging.{listsFor, ruling, judged, judgedOf, verdict}
 use Rattle.rules.specs.Answers.{verdictNumbers, judgedNumbers}
 use Rattle.rules.specs.Exported.{VerdictHands}
-use Rattle.rules.specs.Demands.{CannotTell, Exact, Judgeable, Demand3, ClientsVerdictExact}
+use Rattle.rules.specs.Demands.{Right, CannotTell, Exact, Judgeable, Demand3, ExpansionBegins, ClientsVerdictExact}
 use Rattle.forms.proofs.Decoding.{written-begins}
 use Rattle.forms.proofs.Agreement.{start-lent, call-lent, forms-agree}
 use Rattle.verdicts.proofs.Client.{verdict-is-ruling}
@@ -84,11 +86,10 @@ module _ (file : List ℕ) (a : Agreement) (e : fileOf file ≡ good a) where
       → Exact file a r (λ v. say (ruling a r) ≡ say v) (written a words)
   exact say tells r words =
       let begun : beginsWith (written a words) (table (expansion a)) ≡ true = written-begins a words in
-      let same : breakingExpanded file (written a words) a r ≡ breaking a r = fun-ext (breaking-same (written a words) begun r) in (
-        begun,
-        λ v.
-            rw same (λ said. verdicts-exact a r v .0 (tells (ruling a r) v said), λ right. ap say (verdicts-exact a r v .1 right)),
-      )
+      let same : breakingExpanded file (written a words) a r ≡ breaking a r = fun-ext (breaking-same (written a words) begun r) in
+      let plain : (v : Ruling) → (say (ruling a r) ≡ say v) ↔ Right (a .fields .bound) (breaking a r) (listsFor a) v =
+      λ v. (λ said. verdicts-exact a r v .0 (tells (ruling a r) v said), λ right. ap say (verdicts-exact a r v .1 right)) in
+      (begun, (ruling a r, refl), plain, rw same plain)
 
   module _ (words : List ℕ) (i : ℕ) (r : Rule) (h : Judgeable file words a i r) where
     says : verdict file i words ≡ lent (judgedOf (ruling a r)) (written a words)
@@ -102,8 +103,13 @@ module _ (file : List ℕ) (a : Agreement) (e : fileOf file ≡ good a) where
     exact-handed m = rw (m .words-are, m .answer-is, says) (exact (λ v. judgedNumbers (judgedOf v)) numbers-tell r words)
 
 pub demand-3 : Demand3
+unfolding listsFor
 demand-3 file words a e =
     (cannot-tell file a e words, exact-verdict file a e words, places-in-order (length (a .rows)) (a .fields .depth))
 
 pub clients-verdict-exact : ClientsVerdictExact
 clients-verdict-exact file words a i r after answer e h m = exact-handed file a e words i r h m
+
+pub expansion-begins : ExpansionBegins
+unfolding expandFile onFile
+expansion-begins file words a e h = rw (e, h) (written-begins a words)

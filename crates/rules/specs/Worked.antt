@@ -1,6 +1,7 @@
 -- Worked cases of what the ten cases and the slips leave open: small agreements, and the complete outcomes that document 01 gives
 -- for them. Under each agreement stand its steps, their nodes and offsets counted in its text.
 use Prim.Native.Nat.{ℕ}
+use mathlib.Core.Bool.{true, false}
 use mathlib.Core.List.{List, [], _∷_, _++_}
 use lib.ListN.{take, replicate}
 use Rattle.rules.specs.declared.Answer.{Answer}
@@ -23,9 +24,10 @@ use Rattle.rules.specs.Encoding.{set, transfer, require, return, block, 
 use Rattle.rules.specs.Encoding.{transition, row, payingRow, always, rule}
 use Rattle.rules.specs.Accepting.{refusalAt, refusal, lent}
 use Rattle.rules.specs.Calling.{outcome}
-use Rattle.rules.specs.Tasks.{Task, expanding, calling, callingFrom, judging, reporting}
+use Rattle.rules.specs.Tasks.{Task, expanding, calling, callingFrom, judging, breakingOn, reporting}
 use Rattle.rules.specs.Tasks.{ofRead, ofExpanded, ofCalled, ofJudged, ofRecord, toRecord}
-use Rattle.rules.specs.Tasks.{Result, expanded, ran, ruled, printed, numbers, recorded, Holds}
+use Rattle.rules.specs.Tasks.{Result, expanded, ran, ruled, broke, printed, numbers, recorded, judgement, noRows, Holds}
+use Rattle.rules.specs.Counter.{counter, counterSteps}
 
 abbrev callOf : (name sender coins : ℕ) (arguments : List ℕ) → Call
 callOf n s c xs = record { name = n; sender = s; coins = c; arguments = xs }
@@ -343,13 +345,6 @@ endlessSteps =
 abbrev zeros : State
 zeros = record { state = 0; variables = replicate 16 0; balances = replicate 8 0; own = 0 }
 
--- a verdict, and the rows of its list with zeros behind them
-abbrev judgement : Verdict → (rows : List ℕ) → Judged
-judgement v rows = record { verdict = v; rows = rows }
-
-abbrev noRows : List ℕ
-noRows = replicate 8 0
-
 abbrev unjudged : (rule : ℕ) (words : List ℕ) (number : ℕ) → Task × Result
 unjudged i words n = (judging failing i words, ruled (lent (judgement (verdict.Refused (refusal n)) noRows) words))
 
@@ -442,6 +437,34 @@ ruleCases =
     ∷ (reporting (ruling 7 (rule 2 1 1 ++ rule 2 1 9)), printed (text "refused 4 280\n"))
     ∷ []
 
+-- Three calls that complete in this order alone. One state, one variable, one account with 5, depth 3, limit 2, bound 40.
+--   1: v0 from 0 to 1        2: v0 from 1 to 2        3: v0 from 2 to 3
+-- Rows: 1, 2, 3. Rules: 3 not after 1; 3 only after 3; 2 only after 1.
+abbrev sequence : List ℕ
+sequence =
+    encoded 1
+    ((1 ∷ 1 ∷ 1 ∷ 0 ∷ 3 ∷ 0 ∷ word16 2 ++ word32 40 ++ word32 5)
+    ++ set 0 (constant 0)
+    ++ require (constant 0)
+    ++ transition 1 0 0 (binary 5 (variable 0) (constant 0)) (set 0 (constant 1))
+    ++ transition 2 0 0 (binary 5 (variable 0) (constant 1)) (set 0 (constant 2))
+    ++ transition 3 0 0 (binary 5 (variable 0) (constant 2)) (set 0 (constant 3))
+    ++ row 1 0
+    ++ row 2 0
+    ++ row 3 0
+    ++ rule 2 3 1
+    ++ rule 3 3 3
+    ++ rule 3 2 1)
+
+-- "later than", "earlier": not only next to it. Of 40 lists the 19th is the first that completes all three.
+unfoldable pub sequenceCases : List (Task × Result)
+sequenceCases =
+    (reporting sequence, printed (text "steps 8\nrule 0 broken 19 0 1 2\nrule 1 broken 19 0 1 2\nrule 2 held 40\n"))
+    -- "expanded on any lent words": on the counter agreement's steps call 1 leads to v0 = 2; with no words every call is refused
+    ∷ (breakingOn (counter 2 6 10) counterSteps 0 (0 ∷ []), broke true)
+    ∷ (breakingOn (counter 2 6 10) [] 0 (0 ∷ []), broke false)
+    ∷ []
+
 -- k, k + 1 and on, n numbers
 abbrev counting : (k n : ℕ) → List ℕ
 counting = each (λ i. i ∷ [])
@@ -473,7 +496,7 @@ numberCases =
 
 unfoldable pub workedCases : List (Task × Result)
 workedCases =
-    expressionCases ++ depositCases ++ orderCases ++ branchCases ++ startCases ++ ruleCases ++ numberCases
+    expressionCases ++ depositCases ++ orderCases ++ branchCases ++ startCases ++ ruleCases ++ sequenceCases ++ numberCases
 
 abbrev pub WorkedCases : Type 0
 WorkedCases = Holds workedCases
