@@ -150,7 +150,7 @@ def _otherwise(statement: Statement, scope: Scope) -> list[str]:
 def _for_line(statement: For, scope: Scope) -> str:
     initial, condition, closing = statement.initial, statement.condition, statement.closing
     target = initial.target
-    counter = Variable(target) if target < tree.FIRST_LOCAL else Local(target - tree.FIRST_LOCAL)
+    counter = tree.value_of(target)
     word = _target(target, scope)
     first = expression_text(initial.value, scope)
     match condition:

@@ -142,6 +142,11 @@ class For:
 Statement = Set | Transfer | Require | Return | Block | If | IfElse | While | For
 
 
+def value_of(target: int) -> Variable | Local:
+    """The expression for what a set's target holds."""
+    return Variable(target) if target < FIRST_LOCAL else Local(target - FIRST_LOCAL)
+
+
 # The agreement and its parts.
 
 
