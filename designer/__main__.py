@@ -84,6 +84,9 @@ def main() -> int:
         return USAGE
     except KeyboardInterrupt:
         return 130
+    except Exception as fault:
+        print(f"agreement: a fault of this program, not of what it was given: {type(fault).__name__}: {fault}", file=sys.stderr)
+        return USAGE
 
 
 if __name__ == "__main__":

@@ -9,6 +9,7 @@ import agreement
 
 from designer import files, names, refused, tree
 from designer.errors import REFUSED, Failure
+from designer.language import MOST_BYTES
 
 
 @dataclass(frozen=True)
@@ -20,11 +21,11 @@ class Accepted:
 
 def load(path: Path) -> Accepted:
     """Fails with status 4 and the refusal in words where the library refuses the file."""
-    data = files.read(path)
+    data = files.read(path, MOST_BYTES)
     try:
         accepted = agreement.Agreement(data)
     except agreement.Refused as refusal:
-        raise Failure(refused.sentence(refusal.number, refusal.place, data), REFUSED) from None
+        raise Failure(refused.sentence(refusal.number, refusal.place, data), REFUSED) from refusal
     except agreement.LibraryMissing as missing:
         raise Failure(f"agreement: {missing}") from None
     decoded = tree.decode(data)

@@ -28,7 +28,7 @@ ADVICE: dict[type[ast.AST], str] = {
     ast.FunctionDef: "an action holds no other",
     ast.Global: "variables can be set in every action",
 }
-LOOP = "write with loop(NAME := VALUE, CONDITION, NAME := VALUE)"
+LOOP = "with loop(NAME := VALUE, CONDITION, NAME := VALUE)"
 
 
 def called(node: ast.AST) -> str | None:
@@ -47,7 +47,7 @@ def words_of(call: ast.Call, form: str, *counts: int) -> list[ast.expr]:
         if isinstance(word, ast.Starred):
             raise Mistake(word, f"one word stands here: write {form}")
     if counts and len(call.args) not in counts:
-        raise Mistake(call, f"{len(call.args)} words in parentheses, {' or '.join(map(str, counts))} are expected: write {form}")
+        raise Mistake(call, f"{len(call.args)} given, {' or '.join(map(str, counts))} expected: write {form}")
     return call.args
 
 
@@ -65,6 +65,8 @@ class Action:
         given = self.node.args
         for default in (*given.defaults, *filter(None, given.kw_defaults)):
             raise Mistake(default, "an argument has no default: a row says what is passed")
+        for parameter in getattr(self.node, "type_params", ()):
+            raise Mistake(parameter, "arguments are written def NAME(ARGUMENT, ..)")
         if self.node.returns:
             raise Mistake(self.node.returns, "no kind of value is written here: values are numbers")
         for extra in (given.vararg, given.kwarg, *given.kwonlyargs, *given.posonlyargs):
@@ -141,10 +143,10 @@ class Action:
     def target(self, node: ast.expr) -> int:
         if not isinstance(node, ast.Name):
             raise Mistake(node, "one name is set by one statement, NAME = VALUE")
-        if node.id not in self.meanings.names:
-            advice = "locals are declared by locals(NAME, ..), first in the action"
-            raise Mistake(node, f"{self.meanings.unknown(node.id)}; {advice}")
-        meaning = self.meanings.of(node)
+        try:
+            meaning = self.meanings.of(node, "variable", "local")
+        except Mistake as mistake:
+            raise Mistake(node, f"{mistake} (locals are declared by locals(NAME, ..), first in the action)") from None
         if meaning.kind not in ("variable", "local"):
             raise Mistake(node, f"'{node.id}' is {ARTICLES[meaning.kind]}; only variables and locals can be set")
         return meaning.index + (FIRST_LOCAL if meaning.kind == "local" else 0)
@@ -161,7 +163,7 @@ class Action:
 
     def walrus(self, node: ast.expr, level: int) -> Set:
         if not isinstance(node, ast.NamedExpr):
-            raise Mistake(node, f"a set is expected here: {LOOP}")
+            raise Mistake(node, f"a set is expected here: write {LOOP}")
         return Set(self.target(node.target), self.expressions.any(node.value, level + 1))
 
     # Statements that are written as calls, and returns.
@@ -208,8 +210,8 @@ class Action:
         if isinstance(head, ast.Name) and head.id == "block":
             return self.block(body, level)
         if called(head) != "loop" or not isinstance(head, ast.Call):
-            raise Mistake(head, "after 'with' comes block or loop(NAME := VALUE, CONDITION, NAME := VALUE)")
-        initial, condition, closing = words_of(head, "loop(NAME := VALUE, CONDITION, NAME := VALUE)", 3)
+            raise Mistake(head, f"after 'with' comes block or a loop: write with block, or {LOOP}")
+        initial, condition, closing = words_of(head, LOOP, 3)
         check_level(head, level + 1)
         return For(
             self.walrus(initial, level + 1),

@@ -4,7 +4,7 @@ from __future__ import annotations
 
 import ast
 
-from designer.language import MOST_LEVELS, OPERATOR_NODES, OPERATORS
+from designer.language import MOST, MOST_LEVELS, OPERATOR_NODES, OPERATORS
 from designer.meanings import ARTICLES, Meanings, number
 from designer.source import Mistake
 from designer.tree import AT_MOST, EQUAL, LESS, UNEQUAL
@@ -39,7 +39,7 @@ FORMS: dict[type[ast.AST], str] = {
     ast.List: "there are no lists",
     ast.Subscript: "there are no lists: a variable holds one number",
     ast.Attribute: "there are no parts of a name",
-    ast.JoinedStr: "there is no text: values are numbers",
+    ast.JoinedStr: "values are whole numbers",
     ast.Starred: "one value stands here",
 }
 ALLOWED = "expressions are numbers, names, " + " ".join((*OPERATORS, "not"))
@@ -96,10 +96,8 @@ class Expressions:
     def constant(self, node: ast.Constant) -> int:
         if isinstance(node.value, bool):
             raise Mistake(node, f"values are numbers: write {int(node.value)} for {node.value}")
-        if isinstance(node.value, float):
-            raise Mistake(node, "values are whole numbers")
-        if isinstance(node.value, str | bytes):
-            raise Mistake(node, "there is no text: values are numbers")
+        if type(node.value) is not int:
+            raise Mistake(node, f"values are whole numbers from 0 to {MOST:,}, and there is nothing else")
         return number(node)
 
     def name(self, node: ast.Name) -> Expression:

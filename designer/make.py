@@ -3,13 +3,14 @@
 from __future__ import annotations
 
 import ast
+import os
 from pathlib import Path
 
 from designer import files, tree
 from designer import names as tables
 from designer.actions import Action, called, words_of
 from designer.errors import Failure
-from designer.expressions import Expressions
+from designer.expressions import NAMED, Expressions
 from designer.language import ACTIONS, COUNTS, DECLARATIONS, FORMS, MOST, MOST_BYTES, MOST_STEPS, RULES, SETTINGS
 from designer.meanings import ARTICLES, Meanings, number
 from designer.names import Names
@@ -151,10 +152,12 @@ class Maker:
                 if value in self.names.calls:
                     raise Mistake(pair, f"the number {value} is that of '{self.names.calls[value]}' already")
                 self.declare_call(pair, name, value)
-        free = (value for value in range(1, 256) if value not in self.names.calls)
         for node, _ in self.moves:
             if node.name not in self.meanings.indices("call"):
-                self.declare_call(node, node.name, next(free))
+                free = [value for value in range(1, 256) if value not in self.names.calls]
+                if not free:
+                    raise Mistake(node, f"no number from 1 to 255 is left for '{node.name}': calls(..) has them all")
+                self.declare_call(node, node.name, free[0])
 
     def declare_call(self, node: ast.AST, name: str, value: int) -> None:
         self.meanings.declare(node, name, "call", value)
@@ -174,7 +177,6 @@ class Maker:
             raise Mistake(nodes[CHILDREN[word]], f"{len(nodes)} {word}, at most {CHILDREN[word]}")
 
     def transitions(self) -> tuple[Transition, ...]:
-        self.limited("transitions", [decorator for _, decorator in self.moves])
         made: list[Transition] = []
         last: tuple[ast.FunctionDef, Action, Statement] | None = None
         for position, (node, decorator) in enumerate(self.moves):
@@ -222,9 +224,16 @@ class Maker:
         coins = self.coins(node)
         takes = self.names.arguments.get(known.index, self.names.arguments["fallback"])
         if len(node.args) != len(takes):
-            raise Mistake(node, f"{len(node.args)} arguments, '{word}' takes {len(takes)}: ({', '.join(takes)})")
-        values = [number(argument, f"the argument '{name}'") for name, argument in zip(takes, node.args)]
+            raise Mistake(node, f"{len(node.args)} given, '{word}' takes {len(takes)}: ({', '.join(takes)})")
+        values = [self.passed(name, argument) for name, argument in zip(takes, node.args)]
         return Row(known.index, sender, coins, (*values, *[0] * (ARGUMENTS - len(values))))
+
+    def passed(self, name: str, node: ast.expr) -> int:
+        """An argument of a row: a number, or the name of an account or state, which stands for its number."""
+        meaning = self.meanings.names.get(node.id) if isinstance(node, ast.Name) else None
+        if meaning and meaning.kind in NAMED:
+            return meaning.index
+        return number(node, f"the argument '{name}'")
 
     def coins(self, node: ast.Call) -> int:
         for index, pair in enumerate(node.keywords):
@@ -260,6 +269,7 @@ class Maker:
             self.names.variables = self.declare_names("variables", "variable")
         balances = self.declare_accounts()
         self.names.accounts = tuple(self.meanings.indices("account"))
+        self.limited("transitions", [decorator for _, decorator in self.moves])
         self.declare_calls()
         settings = self.settings()
         made = Agreement(
@@ -313,7 +323,7 @@ def make_file(source: Path, target: Path) -> None:
     text = files.read_text(source)
     beside = tables.path_of(target)
     for written in (target, beside):
-        if written.exists() and written.samefile(source):
+        if os.path.exists(written) and os.path.samefile(written, source):
             raise Failure(f"{written}: this is the source, and would be written over")
     made, names = make(text, str(source))
     files.write_all({target: tree.encode(made), beside: tables.text(names).encode()})

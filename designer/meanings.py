@@ -42,24 +42,26 @@ class Meanings:
             raise Mistake(node, f"'{name}' has a meaning already: {ARTICLES[known.kind]}, declared at line {known.line}")
         self.names[name] = Meaning(kind, index, getattr(node, "lineno", 0))
 
-    def of(self, node: ast.Name) -> Meaning:
+    def of(self, node: ast.Name, *kinds: str) -> Meaning:
+        """The meaning of a name. Of these kinds, or of any, is the name that is proposed where it has none."""
         if node.id not in self.names:
-            raise Mistake(node, self.unknown(node.id))
+            raise Mistake(node, self.unknown(node.id, kinds))
         return self.names[node.id]
 
-    def unknown(self, name: str) -> str:
+    def unknown(self, name: str, kinds: tuple[str, ...]) -> str:
         if name in CONTEXT:
-            return f"'{name}' has no value here; " + ", ".join(self.indices("context") or ["no word"]) + " would have"
+            return f"'{name}' has no value outside an action"
         if name in RESERVED:
             return f"'{name}' is a word of the language and has no value"
-        near = difflib.get_close_matches(name, self.names, 1)
+        known = [word for word, meaning in self.names.items() if not kinds or meaning.kind in kinds]
+        near = difflib.get_close_matches(name, known, 1)
         return f"'{name}' is not declared" + (f"; did you mean '{near[0]}'?" if near else "")
 
     def index(self, node: ast.AST, kind: str) -> int:
         """The number of a name that must be of a kind."""
-        if not isinstance(node, ast.Name):
+        if not isinstance(node, ast.Name) or node.id in RESERVED:
             raise Mistake(node, f"the name of {ARTICLES[kind]} is expected here")
-        meaning = self.of(node)
+        meaning = self.of(node, kind)
         if meaning.kind != kind:
             raise Mistake(node, f"'{node.id}' is {ARTICLES[meaning.kind]}; the name of {ARTICLES[kind]} is expected here")
         return meaning.index

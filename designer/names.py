@@ -11,6 +11,7 @@ A line of the table has a word and names:
 from __future__ import annotations
 
 import keyword
+import os
 import unicodedata
 from collections.abc import Iterable, Sequence
 from dataclasses import dataclass, field
@@ -200,15 +201,13 @@ def parse(table: str) -> Names:
 
 
 def path_of(file: Path) -> Path:
-    return file.with_name(file.name + ".names")
+    return Path(f"{file}.names")
 
 
 def load(file: Path, tree: Agreement) -> Names:
     """The names of an agreement file: from the table beside it, where there is one."""
     path = path_of(file)
-    given = ""
-    if path.exists():
-        given = files.read_text(path)
+    given = files.read_text(path) if os.path.exists(path) else ""
     try:
         return fit(parse(given), tree)
     except Failure as failure:

@@ -8,9 +8,10 @@ import warnings
 from dataclasses import dataclass
 
 from designer.errors import Failure
-from designer.language import MOST_LEVELS
+from designer.language import MOST, MOST_LEVELS
 
 WIDEST = 160
+TOO_LARGE = f"a number has too many digits: it is at most {MOST:,}"
 
 
 class Mistake(Exception):
@@ -36,8 +37,8 @@ class Source:
     text: str
 
     def line(self, number: int) -> str:
-        """A line by its number; Python's parser ends lines by these and by nothing else."""
-        lines = re.split(r"\r\n|\r|\n", self.text)
+        """A line by its number, from 1; none is empty."""
+        lines = self.lines()
         return lines[number - 1] if 0 < number <= len(lines) else ""
 
     def parse(self) -> list[ast.stmt]:
@@ -46,11 +47,20 @@ class Source:
                 warnings.simplefilter("ignore")
                 return ast.parse(self.text).body
         except SyntaxError as error:
-            line, column = error.lineno or 1, max(error.offset or 1, 1)
-            raise self.failure(Place(line, column, 1), error.msg) from None
+            # Python has a limit of its own for the digits of a number, in words that do not help here.
+            message = TOO_LARGE if error.msg.startswith("Exceeds the limit") else error.msg
+            raise self.failure(Place(error.lineno or 1, max(error.offset or 1, 1), 1), message) from None
         except (RecursionError, MemoryError):
-            message = f"this is nested too deeply to be read; records stand on at most {MOST_LEVELS} levels"
-            raise self.failure(Place(1, 1, 1), message) from None
+            message = f"this is nested too deeply, most likely on this line: records stand on at most {MOST_LEVELS} levels"
+            raise self.failure(Place(self.longest(), 1, 1), message) from None
+
+    def lines(self) -> list[str]:
+        """Python's parser ends lines by these characters and by no others."""
+        return re.split(r"\r\n|\r|\n", self.text)
+
+    def longest(self) -> int:
+        lengths = [len(line) for line in self.lines()]
+        return lengths.index(max(lengths)) + 1
 
     def place(self, node: ast.AST) -> Place:
         """Where a part stands; a part without a place is the whole source."""
@@ -64,7 +74,7 @@ class Source:
 
     def failure(self, place: Place, message: str) -> Failure:
         """The message with its place, the line that it is about, and marks below the offending text."""
-        line = self.line(place.line)
+        line = "".join(mark if mark.isprintable() or mark == "\t" else "\ufffd" for mark in self.line(place.line))
         head = f"{self.path}:{place.line}:{place.column}: {message}"
         if not line.strip() or place.column + place.length > WIDEST:
             cut = line[place.column - 1 :][:WIDEST].strip()
