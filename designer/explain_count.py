@@ -105,7 +105,8 @@ class _Search:
         self.arrive(left)
         name = self.accepted.tree.rows[row].name
         self.judge(name, happened)
-        return left, happened | ({name} if any(name == rule.q for _, rule in self.rules) else set())
+        named = any(rule.expression is None and name == rule.q for _, rule in self.rules)
+        return left, happened | {name} if named else happened
 
     def judge(self, name: int, happened: frozenset[int]) -> None:
         """Holds the rules of order to a completed call."""

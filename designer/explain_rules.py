@@ -9,7 +9,7 @@ from dataclasses import dataclass
 from agreement import Record
 
 from designer import tree
-from designer.language import MOST
+from designer.language import MOST, OPERATORS
 from designer.names import Names
 from designer.show import Scope, expression_text
 from designer.tree import Binary, Constant, Context, Expression, Not, Rule, Variable
@@ -27,6 +27,15 @@ _OPERATIONS: tuple[Callable[[int, int], int], ...] = (
     lambda left, right: bool(left) and bool(right),
     lambda left, right: bool(left) or bool(right),
 )
+
+
+_PROBLEMS = {
+    tree.PLUS: "over 4,294,967,295",
+    tree.MINUS: "below zero",
+    tree.TIMES: "over 4,294,967,295",
+    tree.DIVIDE: "a zero divisor",
+    tree.REMAINDER: "a zero divisor",
+}
 
 
 class Fails(Exception):
@@ -76,16 +85,23 @@ def is_kept(expression: Expression, record: Record) -> bool:
 
 
 @dataclass(frozen=True)
+class Failing:
+    """An operation that fails: its source text, the same with its sides' values, and why it fails."""
+
+    source: str
+    values: str
+    problem: str
+
+
+@dataclass(frozen=True)
 class Break:
-    """`after` counts the calls of the list, 0 is the start. `why` is "false", "fails", "after" or "before": the last two
-    are rules 2 and 3 broken by their order. `reads` has what an expression reads, `part` the operation that fails and
-    `sides` its values, `earlier` the call by which a rule of type 2 is broken."""
+    """`after` counts the calls of the list; 0 is the start. `why` is "false" or "fails" for an expression, with what it
+    reads; "late" for a p after q, with the call that completed q, and "early" for a p with no q before it."""
 
     after: int
     why: str
     reads: dict[str, int | str] | None = None
-    part: str | None = None
-    sides: tuple[int, int] | None = None
+    failing: Failing | None = None
     earlier: int | None = None
 
 
@@ -106,9 +122,12 @@ def _expression_break(after: int, expression: Expression, record: Record, names:
     reads = _reads(expression, record, names)
     try:
         return None if value_of(expression, record) else Break(after, "false", reads)
-    except Fails as failing:
-        part = expression_text(failing.expression, Scope(names))
-        return Break(after, "fails", reads, part, failing.sides)
+    except Fails as fails:
+        left, right = fails.sides
+        sign = fails.expression.operator
+        values = f"{left} {OPERATORS[sign]} {right}"
+        failing = Failing(expression_text(fails.expression, Scope(names)), values, _PROBLEMS[sign])
+        return Break(after, "fails", reads, failing)
 
 
 def _order_break(rule: Rule, completed: Iterator[tuple[int, int]]) -> Break | None:
@@ -116,9 +135,9 @@ def _order_break(rule: Rule, completed: Iterator[tuple[int, int]]) -> Break | No
     earlier = None
     for after, name in completed:
         if name == rule.p and rule.type == tree.NOT_AFTER and earlier is not None:
-            return Break(after, "after", earlier=earlier)
+            return Break(after, "late", earlier=earlier)
         if name == rule.p and rule.type == tree.ONLY_AFTER and earlier is None:
-            return Break(after, "before")
+            return Break(after, "early")
         if name == rule.q and earlier is None:
             earlier = after
     return None

@@ -53,12 +53,12 @@ class Fresh:
 
 @dataclass(frozen=True)
 class Run:
-    """`calls` has the call's name and the record that it left, None where it was refused."""
+    """`left` has each call's number and the record that it left, None where it was refused."""
 
     fresh: Fresh
     fresh_record: Record
     made: tuple[Made, ...]
-    calls: tuple[tuple[int, Record | None], ...]
+    left: tuple[tuple[int, Record | None], ...]
 
 
 def call_of(row: Row) -> Call:
