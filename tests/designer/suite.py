@@ -15,8 +15,6 @@ import table_of_names
 import wrong_sources
 from cases import Test
 
-sys.dont_write_bytecode = True
-
 
 def tests() -> Iterator[Test]:
     for part in (wrong_sources, limits, table_of_names, round_trip, refusals_in_words, commands, code_style):
