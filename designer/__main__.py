@@ -6,7 +6,7 @@ import os
 import sys
 from pathlib import Path
 
-from designer.errors import USAGE, Failure
+from designer.errors import INTERNAL, USAGE, Failure
 
 HELP = """usage: agreement make SOURCE FILE              write the agreement file of a source, and its names to FILE.names
        agreement show FILE                     print an agreement file as a source
@@ -15,7 +15,7 @@ HELP = """usage: agreement make SOURCE FILE              write the agreement fil
 
 These commands are not proved; docs/LANGUAGE.md has the language of the sources, examples/README.md some agreements.
 Exit status: 0 done, 2 the words or a file given are wrong, 4 `show` or `explain` of a file that is refused; for `explain`
-also 0 all rules held, 1 some broken, 3 some spent and none broken."""
+also 0 all rules held, 1 some broken, 3 some spent and none broken; 70 a fault of the program itself."""
 
 
 def _two_paths(words: list[str]) -> tuple[Path, Path]:
@@ -86,7 +86,7 @@ def main() -> int:
         return 130
     except Exception as fault:
         print(f"agreement: a fault of this program, not of what it was given: {type(fault).__name__}: {fault}", file=sys.stderr)
-        return USAGE
+        return INTERNAL
 
 
 if __name__ == "__main__":

@@ -4,6 +4,7 @@ from __future__ import annotations
 
 USAGE = 2
 REFUSED = 4
+INTERNAL = 70
 
 
 class Failure(Exception):

