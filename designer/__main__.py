@@ -70,17 +70,25 @@ def run(words: list[str]) -> int:
         return failure.status
 
 
+def _drop_output() -> None:
+    """Nothing more can be printed, also not at the end of the program."""
+    os.dup2(os.open(os.devnull, os.O_WRONLY), sys.stdout.fileno())
+
+
 def main() -> int:
-    # A source is UTF-8 wherever it is printed; a path that is not still has to be told of.
-    for stream in (sys.stdout, sys.stderr):
+    # A source is UTF-8 wherever it is printed; a path that is not still has to be told of. A closed stream is None.
+    for stream in filter(None, (sys.stdout, sys.stderr)):
         stream.reconfigure(encoding="utf-8", errors="backslashreplace")
     try:
         status = run(sys.argv[1:])
-        sys.stdout.flush()
+        print(end="", flush=True)
         return status
     except BrokenPipeError:
-        # The reader has gone: nothing more can be printed, also not at the end of the program.
-        os.dup2(os.open(os.devnull, os.O_WRONLY), sys.stdout.fileno())
+        _drop_output()
+        return USAGE
+    except OSError as error:
+        _drop_output()
+        print(f"agreement: the output cannot be written: {error.strerror}", file=sys.stderr)
         return USAGE
     except KeyboardInterrupt:
         return 130

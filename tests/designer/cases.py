@@ -18,6 +18,7 @@ ROOT = Path(__file__).resolve().parents[2]
 EXAMPLES = sorted((ROOT / "examples" / "agreements").glob("*.agreement"))
 BASE = (ROOT / "tests" / "designer" / "base.txt").read_text(encoding="utf-8")
 COUNTER = (ROOT / "examples" / "agreements" / "counter.agreement").read_bytes()
+COUNT, SEED = 1_200, 1
 INTERPRETER = ROOT / "tests" / "interpreter" / "target" / "release" / "interpreter"
 
 
@@ -51,9 +52,9 @@ def made(source: str) -> bytes:
 
 
 @cache
-def corpus(count: int, seed: int) -> tuple[bytes, ...]:
+def corpus() -> tuple[bytes, ...]:
     """Files at every limit, the largest ones, and so many random, damaged and deeply nested ones."""
-    command = [str(INTERPRETER), "corpus", str(count), str(seed)]
+    command = [str(INTERPRETER), "corpus", str(COUNT), str(SEED)]
     data = subprocess.run(command, stdout=subprocess.PIPE, check=True).stdout
     found, at = [], 0
     while at < len(data):

@@ -159,6 +159,25 @@ def show_into_closed_pipe(folder: Path) -> None:
     assert done.stderr == "", done.stderr
 
 
+def among_other_modules(folder: Path) -> None:
+    """Modules of the folder that the script is called from are not its own."""
+    for name in ("ast", "agreement", "designer", "names", "tempfile"):
+        (folder / f"{name}.py").write_text("raise SystemExit(9)\n", encoding="utf-8")
+    assert Answer("show", EXAMPLE, folder=folder).status == 0
+
+
+def show_into_full_disk(folder: Path) -> None:
+    with open("/dev/full", "w", encoding="utf-8") as full:
+        done = subprocess.run([str(AGREEMENT), "show", str(EXAMPLE)], stdout=full, stderr=subprocess.PIPE, text=True, check=False)
+    assert done.returncode == 2, done.returncode
+    assert done.stderr == "agreement: the output cannot be written: No space left on device\n", done.stderr
+
+
+def show_into_nothing(folder: Path) -> None:
+    done = subprocess.run(["bash", "-c", '"$0" show "$1" >&-', str(AGREEMENT), str(EXAMPLE)], capture_output=True, check=False)
+    assert (done.returncode, done.stderr) == (0, b""), done
+
+
 def show_counter() -> None:
     answer = Answer("show", EXAMPLE)
     assert answer.status == 0 and answer.err == "", answer.err
@@ -195,7 +214,8 @@ REFUSED = {
 
 def tests() -> Iterator[Test]:
     folders = (make_writes, mistake_writes_nothing, mistake_leaves_the_old, folder_as_source, unwritable_target, through_links)
-    for test in (*folders, show_wrong_names, show_unreadable, show_into_closed_pipe):
+    outputs = (show_into_closed_pipe, show_into_full_disk, show_into_nothing)
+    for test in (*folders, show_wrong_names, show_unreadable, among_other_modules, *outputs):
         yield test.__name__.replace("_", " "), in_folder(test)
     for label, (data, message) in WRONG_SOURCES.items():
         yield f"a source that is {label}", in_folder(partial(wrong_source, data, message))

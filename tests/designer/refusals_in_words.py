@@ -10,7 +10,6 @@ from cases import COUNTER, Test, corpus, library
 from designer import refused, tree
 from designer.tree import Binary, Constant, Context, Not, Require, Rule, Set, Transition, Variable
 
-COUNT, SEED = 1_700, 1
 FOURS = 200
 
 # Bytes of the counter agreement altered, by their offsets, and what is said. Its records: initial set at 20, fallback at 34,
@@ -111,7 +110,7 @@ def check_part(data: bytes, expected: str) -> None:
 def check_damaged() -> None:
     """Every refused file has its words, and every refusal 4 its field."""
     fours = 0
-    for data in corpus(COUNT, SEED):
+    for data in corpus():
         reading = library().read(data)
         if reading.accepted:
             continue

@@ -8,11 +8,11 @@ from pathlib import Path
 
 from cases import BASE, EXAMPLES, Test, altered, corpus, library, made
 from designer import names, tree
+from designer.language import ACTIONS
 from designer.make import make
 from designer.show import show
 
-COUNT, SEED = 1_700, 1
-ACCEPTED = 2_500
+ACCEPTED = 2_000
 PLAIN = "    require(1)\n"
 # Two ways to write one record, as statements in the place of PLAIN.
 SAME = {
@@ -83,11 +83,30 @@ def bare(source: str) -> str:
     return "".join("\n".join(lines).split()).replace(",)", ")").replace("1_000_000", "1000000").replace("20_000", "20000")
 
 
+def invented(data: bytes) -> names.Names:
+    """A table with another name for every number."""
+    agreement = tree.decode(data)
+    default = names.fit(names.Names(), agreement)
+
+    def other(words: tuple[str, ...]) -> tuple[str, ...]:
+        return tuple(f"{word}_ü" for word in words)
+
+    return names.Names(
+        states=other(default.states),
+        variables=other(default.variables),
+        accounts=other(default.accounts),
+        calls={call: f"{name}_ü" for call, name in default.calls.items()},
+        arguments={who: other(words) for who, words in default.arguments.items() if who in ACTIONS},
+        locals={who: other(words) for who, words in default.locals.items()},
+    )
+
+
 def check_corpus() -> None:
-    accepted = [data for data in corpus(COUNT, SEED) if library().read(data).accepted]
+    accepted = [data for data in corpus() if library().read(data).accepted]
     assert len(accepted) >= ACCEPTED, f"only {len(accepted)} of the files are accepted"
-    for data in accepted:
-        check_shown(data, names.Names())
+    for number, data in enumerate(accepted):
+        table = names.Names() if number % 4 else names.parse(names.text(invented(data)))
+        check_shown(data, table)
 
 
 def statement(text: str) -> bytes:
