@@ -27,6 +27,13 @@ ALLOWED = (
 CHILDREN = {"transitions": 64, "rows": 16, "rules": 8}
 
 
+def last_word(node: ast.Attribute) -> ast.Name:
+    """The word after the point, as a part of its own."""
+    line, end = node.end_lineno or node.lineno, node.end_col_offset or node.col_offset
+    begin = max(end - len(node.attr.encode()), 0)
+    return ast.Name(id=node.attr, lineno=line, col_offset=begin, end_lineno=line, end_col_offset=end)
+
+
 class Maker:
     """What a source has declared. The parts are first sorted, then translated in the order of the file."""
 
@@ -220,7 +227,8 @@ class Maker:
         known = self.meanings.names.get(word)
         if known is None or known.kind != "call":
             is_what = f"is {ARTICLES[known.kind]}, not a call" if known else "is no transition's name"
-            raise Mistake(node, f"'{word}' {is_what}; a call that only fallback answers is declared by calls({word}=NUMBER)")
+            hint = f"a call that only fallback answers is declared by calls({word}=NUMBER)"
+            raise Mistake(last_word(node.func), f"'{word}' {is_what}; {hint}")
         coins = self.coins(node)
         takes = self.names.arguments.get(known.index, self.names.arguments["fallback"])
         if len(node.args) != len(takes):

@@ -11,6 +11,7 @@ from designer.names import Names, Who, calls_of, transition_names
 from designer.tree import Agreement, Argument, Binary, Block, Constant, Context, Expression, For, If, IfElse, Local, Not
 from designer.tree import Require, Return, Row, Rule, Set, Statement, Transfer, Transition, Variable, While
 
+LABEL = "# An agreement file as a source, printed by `agreement show`, which is not proved."
 WIDTH = 100
 INDENT = "    "
 
@@ -232,7 +233,7 @@ def rule_text(rule: Rule, names: Names) -> str:
 
 def show(agreement: Agreement, names: Names) -> str:
     """The source of an agreement, with names that fit it."""
-    parts = ["\n".join(_declarations(agreement, names))]
+    parts = ["\n".join([LABEL, *_declarations(agreement, names)])]
     for word, action in (("initial", agreement.initial), ("fallback", agreement.fallback)):
         parts.append("\n".join(_definition(word, action, scope_of(names, word, word))))
     for group in _grouped(agreement, names):

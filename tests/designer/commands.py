@@ -181,7 +181,9 @@ def show_into_nothing(folder: Path) -> None:
 def show_counter() -> None:
     answer = Answer("show", EXAMPLE)
     assert answer.status == 0 and answer.err == "", answer.err
-    assert answer.out.startswith("states(waiting, counted)\nvariables(count)\naccounts(house=5)\n"), answer.out
+    first, rest = answer.out.split("\n", 1)
+    assert first.startswith("# ") and "not proved" in first, first
+    assert rest.startswith("states(waiting, counted)\nvariables(count)\naccounts(house=5)\n"), answer.out
 
 
 def help_and_usage() -> None:

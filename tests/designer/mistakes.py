@@ -183,12 +183,12 @@ ALTERED: dict[str, list[Mistake]] = {
         ("open.pay(2, 3, pays=1)", "32:1", "'open' is a state; the name of an account is expected here"),
         (
             "alice.bid(2, 3, pays=1)",
-            "32:1",
+            "32:7",
             "'bid' is no transition's name; a call that only fallback answers is declared by calls(bid=NUMBER)",
         ),
         (
             "alice.due(2, 3, pays=1)",
-            "32:1",
+            "32:7",
             "'due' is a variable, not a call; a call that only fallback answers is declared by calls(due=NUMBER)",
         ),
         ("alice.house.pay(2, 3, pays=1)", "32:1", "the name of an account is expected here"),

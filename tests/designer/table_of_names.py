@@ -73,7 +73,7 @@ def check_partly() -> None:
 def check_default() -> None:
     tree = make(BASE)[0]
     first = show(tree, fit(Names(), tree)).split("\n")
-    assert first[:5] == [
+    assert first[1:6] == [
         "states(state0, state1)",
         "variables(variable0, variable1)",
         "accounts(account0=5, account1=3)",
