@@ -16,7 +16,7 @@ NAMED = ("state", "account")
 CONTEXT_KINDS = {"sender": "account", "coins": "amount", "own": "amount", "state": "state"}
 EXCHANGED = {ast.Gt: LESS, ast.GtE: AT_MOST}
 
-# What to write for the operators that people try.
+# What to write for the operators and expressions that people try.
 ADVICE: dict[type[ast.AST], str] = {
     ast.Div: "division of whole numbers is written //",
     ast.Pow: "there is no power: write it as a product",
@@ -30,8 +30,6 @@ ADVICE: dict[type[ast.AST], str] = {
     ast.USub: "no number is below zero; a difference is written A - B, and fails where it would be",
     ast.UAdd: "leave the + out",
     ast.Invert: "write 'not'",
-}
-FORMS: dict[type[ast.AST], str] = {
     ast.IfExp: "write an if statement",
     ast.NamedExpr: "a name is set by a statement of its own, NAME = VALUE",
     ast.Call: "there are no functions in expressions",
@@ -90,7 +88,7 @@ class Expressions:
                 return Not(self.value(operand, level + 1))
             case ast.UnaryOp(op=op):
                 raise Mistake(node, f"no such operator: {ADVICE[type(op)]}")
-        advice = FORMS.get(type(node))
+        advice = ADVICE.get(type(node))
         raise Mistake(node, f"no such expression: {advice}" if advice else f"no such expression; {ALLOWED}")
 
     def constant(self, node: ast.Constant) -> int:

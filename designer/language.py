@@ -11,8 +11,9 @@ MOST_BYTES = 32_768
 MOST_LOCALS = 8
 MOST_ARGUMENTS = 4
 
-# The format's counts, by the word that declares them: least and most.
+# Least and most of what the agreement's fields count, the most of its children, and the settings' least and most.
 COUNTS = {"states": (1, 64), "variables": (0, 16), "accounts": (1, 8)}
+CHILDREN = {"transitions": 64, "rows": 16, "rules": 8}
 SETTINGS = {"units": (1, 4_096), "depth": (0, 8), "bound": (1, 1_000_000)}
 
 # In the order of their numbers in the file.

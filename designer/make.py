@@ -11,11 +11,12 @@ from designer import names as tables
 from designer.actions import Action, called, words_of
 from designer.errors import Failure
 from designer.expressions import NAMED, Expressions
-from designer.language import ACTIONS, COUNTS, DECLARATIONS, FORMS, MOST, MOST_BYTES, MOST_STEPS, RULES, SETTINGS
+from designer.language import ACTIONS, CHILDREN, COUNTS, DECLARATIONS, FORMS, RULES, SETTINGS
+from designer.language import MOST, MOST_ARGUMENTS, MOST_BYTES, MOST_STEPS
 from designer.meanings import ARTICLES, Meanings, number
 from designer.names import Names
 from designer.source import Mistake, Source
-from designer.tree import ALWAYS, ARGUMENTS, Agreement, Constant, Row, Rule, Statement, Transition
+from designer.tree import ALWAYS, Agreement, Constant, Row, Rule, Statement, Transition
 
 TRANSITION = "@transition(FROM, TO) or @transition(FROM, TO, GUARD)"
 ROW = "ACCOUNT.CALL(ARGUMENT, .., pays=COINS)"
@@ -23,8 +24,6 @@ ALLOWED = (
     "a source has states(..), variables(..), accounts(..), settings(..), calls(..), def initial(), def fallback(), "
     f"@transition(..) above a def, rows {ROW}, and rules always(..), not_after(..), only_after(..)"
 )
-# The most of each kind of child: transitions, rows, rules.
-CHILDREN = {"transitions": 64, "rows": 16, "rules": 8}
 
 
 def last_word(node: ast.Attribute) -> ast.Name:
@@ -45,7 +44,6 @@ class Maker:
         self.rule_nodes: list[ast.Call] = []
         self.meanings = Meanings()
         self.names = Names()
-        self.actions: dict[int, Action] = {}
         for node in nodes:
             self.sort(node)
 
@@ -234,7 +232,7 @@ class Maker:
         if len(node.args) != len(takes):
             raise Mistake(node, f"{len(node.args)} given, '{word}' takes {len(takes)}: ({', '.join(takes)})")
         values = [self.passed(name, argument) for name, argument in zip(takes, node.args)]
-        return Row(known.index, sender, coins, (*values, *[0] * (ARGUMENTS - len(values))))
+        return Row(known.index, sender, coins, (*values, *[0] * (MOST_ARGUMENTS - len(values))))
 
     def passed(self, name: str, node: ast.expr) -> int:
         """An argument of a row: a number, or the name of an account or state, which stands for its number."""

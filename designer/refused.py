@@ -4,11 +4,17 @@ from __future__ import annotations
 
 from agreement import refusals
 
-from designer.tree import kind_of, number
+from designer.language import CHILDREN, CONTEXT, COUNTS, MOST_ARGUMENTS, MOST_LOCALS, OPERATORS, RULES, SETTINGS
+from designer.tree import FIRST_LOCAL, OWN, kind_of, number
 
 FIELD = 4
-KINDS = {2: ("transition", 64), 3: ("row", 16), 4: ("rule", 8)}
-INDEXED = {66: ("the local's index", 7), 67: ("the argument's index", 3), 80: ("the operator", 10)}
+KINDS = {2: "transition", 3: "row", 4: "rule"}
+# By the kind of a record: its field, and how many values this has from 0 on.
+INDEXED = {
+    66: ("the local's index", MOST_LOCALS),
+    67: ("the argument's index", MOST_ARGUMENTS),
+    80: ("the operator", len(OPERATORS)),
+}
 
 
 def sentence(refusal: int, place: int, data: bytes) -> str:
@@ -40,12 +46,13 @@ def _field_text(data: bytes, at: int) -> str | None:
         return _child_text(data, at, kind)
     index = number(data, at + 4, 2)
     if kind == 16:
-        return f"the set's target is {index}, allowed are {_variables(data[5])}256 to 263 for the locals"
+        locals_ = f"{FIRST_LOCAL} to {FIRST_LOCAL + MOST_LOCALS - 1} for the locals"
+        return f"the set's target is {index}, allowed are {_variables(data[5])}{locals_}"
     if kind == 65:
         return f"the variable's index is {index}, the agreement has {data[5]} variables"
     if kind == 68:
-        return _outside("the context", index, 0, 3) or f"the context is {index}, in a rule at least 2"
-    return _outside(INDEXED[kind][0], index, 0, INDEXED[kind][1]) if kind in INDEXED else None
+        return _outside("the context", index, 0, len(CONTEXT) - 1) or f"the context is {index}, in a rule at least {OWN}"
+    return _outside(INDEXED[kind][0], index, 0, INDEXED[kind][1] - 1) if kind in INDEXED else None
 
 
 def _variables(count: int) -> str:
@@ -55,14 +62,14 @@ def _variables(count: int) -> str:
 def _agreement_text(data: bytes) -> str | None:
     states, variables, accounts, start, depth, zero = (*data[4:10], *bytes(6))[:6]
     return _first(
-        _outside("the agreement's number of states", states, 1, 64),
-        _outside("the agreement's number of variables", variables, 0, 16),
-        _outside("the agreement's number of accounts", accounts, 1, 8),
+        _outside("the agreement's number of states", states, *COUNTS["states"]),
+        _outside("the agreement's number of variables", variables, *COUNTS["variables"]),
+        _outside("the agreement's number of accounts", accounts, *COUNTS["accounts"]),
         _outside("the agreement's start state", start, 0, states - 1),
-        _outside("the agreement's depth", depth, 0, 8),
+        _outside("the agreement's depth", depth, *SETTINGS["depth"]),
         _outside("the agreement's zero byte", zero, 0, 0),
-        _outside("the agreement's unit limit", number(data, 10, 2), 1, 4_096),
-        _outside("the agreement's bound", number(data, 12, 4), 1, 1_000_000),
+        _outside("the agreement's unit limit", number(data, 10, 2), *SETTINGS["units"]),
+        _outside("the agreement's bound", number(data, 12, 4), *SETTINGS["bound"]),
     )
 
 
@@ -76,7 +83,8 @@ def _siblings(data: bytes, at: int) -> list[int]:
 
 
 def _child_text(data: bytes, at: int, kind: int) -> str | None:
-    word, most = KINDS[kind]
+    word = KINDS[kind]
+    most = CHILDREN[word + "s"]
     before = [child for child in _siblings(data, at) if kind_of(data, child) == kind]
     if len(before) >= most:
         return f"this is {word} number {len(before) + 1}, at most {most}"
@@ -94,7 +102,7 @@ def _child_text(data: bytes, at: int, kind: int) -> str | None:
             _outside("the row's first zero byte", third, 0, 0),
             _outside("the row's second zero byte", fourth, 0, 0),
         )
-    return _outside("the rule's type", number(data, at + 4, 2), 1, 3) or _ends_text(data, at, third, fourth)
+    return _outside("the rule's type", number(data, at + 4, 2), 1, len(RULES)) or _ends_text(data, at, third, fourth)
 
 
 def _ends_text(data: bytes, at: int, p: int, q: int) -> str | None:

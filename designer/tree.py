@@ -8,11 +8,12 @@ from __future__ import annotations
 from dataclasses import dataclass, field
 from struct import pack
 
+from designer.language import MOST_ARGUMENTS
+
 PLUS, MINUS, TIMES, DIVIDE, REMAINDER, EQUAL, UNEQUAL, LESS, AT_MOST, AND, OR = range(11)
 SENDER, COINS, OWN, STATE = range(4)
 ALWAYS, NOT_AFTER, ONLY_AFTER = 1, 2, 3
 FIRST_LOCAL = 256
-ARGUMENTS = 4
 
 
 def _offset() -> int:
@@ -356,7 +357,7 @@ def _transition(data: bytes, at: int) -> Transition:
 
 
 def _row(data: bytes, at: int) -> Row:
-    arguments = tuple(number(data, at + 12 + 4 * index, 4) for index in range(ARGUMENTS))
+    arguments = tuple(number(data, at + 12 + 4 * index, 4) for index in range(MOST_ARGUMENTS))
     return Row(data[at + 4], data[at + 5], number(data, at + 8, 4), arguments, at)
 
 

@@ -55,6 +55,14 @@ def check_names(path: Path) -> None:
     assert not missing, f"no entry in docs/LANGUAGE.md: {missing}"
 
 
+def check_entries() -> None:
+    """The page's last part has no name that the code has not."""
+    part = PAGE.read_text(encoding="utf-8").split("## Names in the designer's code")[1]
+    text = "".join(path.read_text(encoding="utf-8") + path.name for path in (ROOT / "designer").iterdir() if path.is_file())
+    gone = set(re.findall(r"`(\w+)`", part)) - set(re.findall(r"\w+", text))
+    assert not gone, gone
+
+
 def check_words() -> None:
     missing = {*RESERVED, *CONTEXT, *SETTINGS, "start", "pays"} - entries()
     assert not missing, missing
@@ -66,3 +74,4 @@ def tests() -> Iterator[Test]:
     for path in DESIGNER:
         yield f"names of {path.relative_to(ROOT)}", partial(check_names, path)
     yield "words of the language", check_words
+    yield "entries of names that are gone", check_entries
