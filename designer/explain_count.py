@@ -19,7 +19,8 @@ from designer.explain_rules import is_kept
 from designer.explain_runs import call_of
 from designer.tree import Agreement, Rule
 
-MOST_STEPS = 100_000
+# Rows tried on positions, each of which runs at most one call.
+COUNT_LIMIT = 100_000
 
 # A record, and which of the calls that rules name as q were completed on the way to it.
 Position = tuple[Record, frozenset[int]]
@@ -95,7 +96,7 @@ class _Search:
     def step(self, position: Position, row: int) -> Position | None:
         """The position after a row; None where its call is refused."""
         self.steps += 1
-        if self.steps > MOST_STEPS:
+        if self.steps > COUNT_LIMIT:
             raise Stopped
         record, happened = position
         left = self.call(record, row)
@@ -106,7 +107,7 @@ class _Search:
         name = self.accepted.tree.rows[row].name
         self.judge(name, happened)
         named = any(rule.expression is None and name == rule.q for _, rule in self.rules)
-        return left, happened | {name} if named else happened
+        return left, (happened | {name} if named else happened)
 
     def judge(self, name: int, happened: frozenset[int]) -> None:
         """Holds the rules of order to a completed call."""
@@ -124,9 +125,12 @@ class _Search:
         first_not_tried = digits(more, count, whole + 1) if more else []
         position = fresh
         for left, row in zip(range(whole, -1, -1), first_not_tried):
-            for smaller in range(row):
-                self.ahead[left].append(self.step(position, smaller) or position)
-            position = self.step(position, row) or position if left else position
+            following = [self.step(position, smaller) for smaller in range(row)]
+            self.ahead[left] += [found for found in following if found is not None]
+            after = self.step(position, row) if left else None
+            if after is None:
+                return  # with a refused call a list comes to no more than a shorter one, which was tried
+            position = after
 
     def search(self) -> None:
         seen: set[Position] = set()
