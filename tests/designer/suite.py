@@ -8,6 +8,7 @@ from collections.abc import Iterator
 
 import code_style
 import commands
+import forms
 import limits
 import refusals_in_words
 import round_trip
@@ -17,7 +18,7 @@ from cases import Test
 
 
 def tests() -> Iterator[Test]:
-    for part in (wrong_sources, limits, table_of_names, round_trip, refusals_in_words, commands, code_style):
+    for part in (wrong_sources, forms, limits, table_of_names, round_trip, refusals_in_words, commands, code_style):
         yield from part.tests()
 
 
