@@ -37,8 +37,8 @@ def _wanted(arguments: list[str]) -> Wanted:
         raise Failure(USAGE)
     rule = None
     if len(words) == 2:
-        if not (words[1].isascii() and words[1].isdigit() and int(words[1]) <= WORD):
-            raise Failure(f"{USAGE}\nRULE is a rule's number, counted from 0, not '{words[1]}'")
+        if not (words[1].isascii() and words[1].isdigit() and len(words[1]) <= 10 and int(words[1]) <= WORD):
+            raise Failure(f"{USAGE}\nRULE is a rule's number, counted from 0, not '{words[1][:60]}'")
         rule = int(words[1])
     return Wanted(Path(words[0]), rule, len(arguments) > len(words))
 

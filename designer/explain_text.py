@@ -31,8 +31,11 @@ def listed(items: Iterable[str]) -> str:
 
 def fresh_line(fresh: Fresh) -> str:
     balances = listed(f"{name} {balance}" for name, balance in fresh.balances.items())
-    nonzero = listed(f"{name} {value}" for name, value in fresh.variables.items() if value)
-    return f"  start: state {fresh.state}; variables {nonzero or 'all 0'}; balances {balances}; own balance {fresh.own}"
+    variables = [f"{name} {value}" for name, value in fresh.variables.items() if value]
+    if len(variables) < len(fresh.variables):
+        variables.append("all others 0" if variables else "all 0")
+    known = f"variables {listed(variables)}; " if variables else ""
+    return f"  start: state {fresh.state}; {known}balances {balances}; own balance {fresh.own}"
 
 
 def _call_words(made: Made) -> str:
@@ -122,8 +125,9 @@ def _meaning_lines(explanation: Explanation) -> list[str]:
     verdicts = {rule.verdict for rule in explanation.rules}
     lines = []
     if "held" in verdicts:
+        calls = amount(explanation.depth, "call")
         lines += [
-            f'"Held" says: no list of up to {amount(explanation.depth, "call")} breaks the rule, each call being one of the rows.',
+            f'"Held" says: no list of up to {calls} breaks the rule, each call being one of the rows.',
             "It does not speak of longer lists, other callers, coins or arguments, or other opening balances.",
         ]
     if "spent" in verdicts:

@@ -20,11 +20,13 @@ is_new() { # FILE
     [ -e "$1" ] && [ -z "$(find crates crates.txt -newer "$1" -print -quit)" ]
 }
 
-# Reads what rt prints and tells of each crate that it has proved; of those proved before it only counts.
+# Reads what rt prints and tells of each crate that it has proved; of those proved before it only counts. Of the crate of an
+# archive rt names the archive alone.
 follow() { # LABEL ALL
     local line proved=0
+    local crate='^rt: ([A-Za-z0-9_]+) proved \((.*)\)$' archive='^rt: target/staticlib/lib([A-Za-z0-9_]+)\.a (.*)$'
     while IFS= read -r line; do
-        [[ $line =~ ^rt:\ ([A-Za-z0-9_]+)\ proved\ \((.*)\)$ ]] || continue
+        [[ $line =~ $crate || $line =~ $archive ]] || continue
         proved=$((proved + 1))
         [[ ${BASH_REMATCH[2]} == unchanged* ]] || echo "$1: $proved of $2 crates: ${BASH_REMATCH[1]} is proved" >&2
     done

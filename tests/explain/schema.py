@@ -55,7 +55,8 @@ class Validator:
         return [] if data == wanted and type(data) is type(wanted) else [f"{path}: {data!r} is not {wanted!r}"]
 
     def _enum(self, data: object, wanted: list[object], schema: Schema, path: str) -> list[str]:
-        return [] if any(data == one and type(data) is type(one) for one in wanted) else [f"{path}: {data!r} is none of {wanted!r}"]
+        same = any(data == one and type(data) is type(one) for one in wanted)
+        return [] if same else [f"{path}: {data!r} is none of {wanted!r}"]
 
     def _minimum(self, data: object, wanted: int, schema: Schema, path: str) -> list[str]:
         return [f"{path}: {data} is below {wanted}"] if _is(data, "integer") and data < wanted else []  # type: ignore[operator]
