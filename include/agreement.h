@@ -5,14 +5,8 @@
  * the buffers that it is lent. An array parameter points to at least as many entries as it shows. Buffers that a
  * function writes must not overlap any other buffer of the same call.
  *
- * Refusal numbers, the first entry of every answer (0: none):
- *    1 size of the file          2 lengths, absent or left-over bytes  3 kind not allowed here  4 field outside its range
- *    5 level 17                  6 name and from repeated              7 balances too large     8 over 1,024 steps
- *    9 sender not an account    10 no such rule                       11 too few words         12 words not the expansion
- *   20 state record unfit       21 balance below the coins            22 name known, but not from here
- *   23 guard false              24 guard failed                       25 action failed         26 units used up
- *   27 initial action failed or used up its units
- * The second entry is the place of the fault, an offset in the file, for 1 to 8, and 0 for the others.
+ * The first entry of every answer is the refusal's number (0: none); agreement_refusals.def has their texts. The second is
+ * the place of the fault, an offset in the file, for 1 to 8, and 0 for the others.
  */
 #ifndef AGREEMENT_H
 #define AGREEMENT_H
@@ -38,6 +32,20 @@ enum { AGREEMENT_BYTES = 32768, AGREEMENT_WORDS = 5120 };
 
 /* A verdict. */
 enum { AGREEMENT_BROKEN = 1, AGREEMENT_HELD = 2, AGREEMENT_SPENT = 3 };
+
+/* The text of a refusal, by its number; a null pointer for a number that is none. */
+static inline const char *agreement_refusal_text(uint32_t number)
+{
+    switch (number) {
+#define AGREEMENT_REFUSAL(NUMBER, TEXT) \
+    case NUMBER:                        \
+        return TEXT;
+#include "agreement_refusals.def"
+#undef AGREEMENT_REFUSAL
+    default:
+        return NULL;
+    }
+}
 
 /*
  * Reads a file.
