@@ -10,6 +10,7 @@ MOST_STEPS = 1_024
 MOST_BYTES = 32_768
 MOST_LOCALS = 8
 MOST_ARGUMENTS = 4
+MOST_NAME = 255
 
 # Least and most of what the agreement's fields count, the most of its children, and the settings' least and most.
 COUNTS = {"states": (1, 64), "variables": (0, 16), "accounts": (1, 8)}

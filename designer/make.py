@@ -11,9 +11,9 @@ from designer import names as tables
 from designer.actions import Action, called, words_of
 from designer.errors import Failure
 from designer.expressions import NAMED, Expressions
-from designer.language import ACTIONS, CHILDREN, COUNTS, DECLARATIONS, FORMS, RULES, SETTINGS
-from designer.language import MOST, MOST_ARGUMENTS, MOST_BYTES, MOST_STEPS
-from designer.meanings import ARTICLES, Meanings, number
+from designer.language import ACTIONS, CHILDREN, COUNTS, DECLARATIONS, FORMS, RESERVED, RULES, SETTINGS
+from designer.language import MOST, MOST_ARGUMENTS, MOST_BYTES, MOST_NAME, MOST_STEPS
+from designer.meanings import ARTICLES, Meanings, nearest, number
 from designer.names import Names
 from designer.source import Mistake, Source
 from designer.tree import ALWAYS, Agreement, Constant, Row, Rule, Statement, Transition
@@ -26,17 +26,11 @@ ALLOWED = (
 )
 
 
-def last_word(node: ast.Attribute) -> ast.Name:
-    """The word after the point, as a part of its own."""
-    line, end = node.end_lineno or node.lineno, node.end_col_offset or node.col_offset
-    begin = max(end - len(node.attr.encode()), 0)
-    return ast.Name(id=node.attr, lineno=line, col_offset=begin, end_lineno=line, end_col_offset=end)
-
-
 class Maker:
     """What a source has declared. The parts are first sorted, then translated in the order of the file."""
 
-    def __init__(self, nodes: list[ast.stmt]) -> None:
+    def __init__(self, source: Source) -> None:
+        self.source = source
         self.declared: dict[str, ast.Call] = {}
         self.definitions: dict[str, ast.FunctionDef] = {}
         self.moves: list[tuple[ast.FunctionDef, ast.Call]] = []
@@ -44,7 +38,7 @@ class Maker:
         self.rule_nodes: list[ast.Call] = []
         self.meanings = Meanings()
         self.names = Names()
-        for node in nodes:
+        for node in source.parse():
             self.sort(node)
 
     # Sorting.
@@ -151,18 +145,20 @@ class Maker:
 
     def declare_calls(self) -> None:
         """Calls with a number given, then the others: from 1 on in the order of their first transitions."""
-        if "calls" in self.declared:
-            for name, pair in self.pairs("calls", "calls(NAME=NUMBER, ..)"):
-                value = number(pair.value, f"the number of '{name}'", 0, 255)
-                if value in self.names.calls:
-                    raise Mistake(pair, f"the number {value} is that of '{self.names.calls[value]}' already")
-                self.declare_call(pair, name, value)
+        for name, pair in self.given_calls():
+            value = number(pair.value, f"the number of '{name}'", 0, MOST_NAME)
+            if value in self.names.calls:
+                raise Mistake(pair, f"the number {value} is that of '{self.names.calls[value]}' already")
+            self.declare_call(pair, name, value)
         for node, _ in self.moves:
             if node.name not in self.meanings.indices("call"):
-                free = [value for value in range(1, 256) if value not in self.names.calls]
+                free = [value for value in range(1, MOST_NAME + 1) if value not in self.names.calls]
                 if not free:
-                    raise Mistake(node, f"no number from 1 to 255 is left for '{node.name}': calls(..) has them all")
+                    raise Mistake(node, f"no number from 1 to {MOST_NAME} is left for '{node.name}': calls(..) has them all")
                 self.declare_call(node, node.name, free[0])
+
+    def given_calls(self) -> list[tuple[str, ast.keyword]]:
+        return self.pairs("calls", "calls(NAME=NUMBER, ..)") if "calls" in self.declared else []
 
     def declare_call(self, node: ast.AST, name: str, value: int) -> None:
         self.meanings.declare(node, name, "call", value)
@@ -224,15 +220,21 @@ class Maker:
         word = node.func.attr
         known = self.meanings.names.get(word)
         if known is None or known.kind != "call":
-            is_what = f"is {ARTICLES[known.kind]}, not a call" if known else "is no transition's name"
-            hint = f"a call that only fallback answers is declared by calls({word}=NUMBER)"
-            raise Mistake(last_word(node.func), f"'{word}' {is_what}; {hint}")
+            raise Mistake(self.source.last_word(node.func), self.no_call(word))
         coins = self.coins(node)
         takes = self.names.arguments.get(known.index, self.names.arguments["fallback"])
         if len(node.args) != len(takes):
             raise Mistake(node, f"{len(node.args)} given, '{word}' takes {len(takes)}: ({', '.join(takes)})")
         values = [self.passed(name, argument) for name, argument in zip(takes, node.args)]
         return Row(known.index, sender, coins, (*values, *[0] * (MOST_ARGUMENTS - len(values))))
+
+    def no_call(self, word: str) -> str:
+        """What is said of a row's name that is no call; only one without a meaning can be declared as it is."""
+        kind = "context" if word in RESERVED else self.meanings.names[word].kind if word in self.meanings.names else None
+        hint = "a call that only fallback answers is declared by"
+        if kind is None:
+            return f"'{word}' is no transition's name; {hint} calls({word}=NUMBER)"
+        return f"'{word}' is {ARTICLES[kind]}, not a call; {hint} calls(NAME=NUMBER), with a name that has no other meaning"
 
     def passed(self, name: str, node: ast.expr) -> int:
         """An argument of a row: a number, or the name of an account or state, which stands for its number."""
@@ -292,8 +294,17 @@ class Maker:
             rows=self.rows(),
             rules=self.rules(),
         )
+        self.check_calls(made)
         self.check_whole(made)
         return made
+
+    def check_calls(self, made: Agreement) -> None:
+        """A number in calls(..) that nothing uses would leave nothing in the file."""
+        used = [self.names.calls[value] for value in tables.calls_of(made)]
+        for name, pair in self.given_calls():
+            if name not in used:
+                hint = f"calls(..) has names of transitions and rows only{nearest(name, used)}"
+                raise Mistake(pair, f"no transition or row has the name '{name}': {hint}")
 
     def check_whole(self, made: Agreement) -> None:
         """Bytes and steps of the whole; the part that passes a limit is the place."""
@@ -318,7 +329,7 @@ def make(text: str, path: str = "source") -> tuple[Agreement, Names]:
     """The agreement of a source, and its names. A failure names the path."""
     source = Source(path, text)
     try:
-        maker = Maker(source.parse())
+        maker = Maker(source)
         return maker.agreement(), maker.names
     except Mistake as mistake:
         raise source.failure(source.place(mistake.node), str(mistake)) from None

@@ -27,6 +27,12 @@ class Meaning:
     line: int
 
 
+def nearest(name: str, known: list[str]) -> str:
+    """The end of a message: which of the known names is likely meant, if any is."""
+    near = difflib.get_close_matches(name, known, 1)
+    return f"; did you mean '{near[0]}'?" if near else ""
+
+
 class Meanings:
     """The meanings of names, by name: those above, and the words of the context that have a value here."""
 
@@ -54,8 +60,7 @@ class Meanings:
         if name in RESERVED:
             return f"'{name}' is a word of the language and has no value"
         known = [word for word, meaning in self.names.items() if not kinds or meaning.kind in kinds]
-        near = difflib.get_close_matches(name, known, 1)
-        return f"'{name}' is not declared" + (f"; did you mean '{near[0]}'?" if near else "")
+        return f"'{name}' is not declared{nearest(name, known)}"
 
     def index(self, node: ast.AST, kind: str) -> int:
         """The number of a name that must be of a kind."""

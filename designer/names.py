@@ -19,7 +19,7 @@ from pathlib import Path
 
 from designer import files
 from designer.errors import Failure
-from designer.language import ACTIONS, MOST_ARGUMENTS, MOST_LOCALS, RESERVED
+from designer.language import ACTIONS, COUNTS, MOST_ARGUMENTS, MOST_LOCALS, MOST_NAME, RESERVED
 from designer.tree import FIRST_LOCAL, Agreement, Argument, Expression, Local, Set, Statement, walk
 
 HEADING = "# Names for the numbers of the agreement file beside this one. The file itself has numbers only.\n"
@@ -162,15 +162,15 @@ def _checked(words: Sequence[str], most: int) -> tuple[str, ...]:
 
 
 def _number(word: str) -> int:
-    if not (word.isascii() and word.isdigit() and len(word) <= 3 and int(word) <= 255):
-        raise Failure(f"'{word}' is no number from 0 to 255")
+    if not (word.isascii() and word.isdigit() and len(word) <= 3 and int(word) <= MOST_NAME):
+        raise Failure(f"'{word}' is no number from 0 to {MOST_NAME}")
     return int(word)
 
 
 def _add_line(names: Names, words: list[str]) -> None:
     match words:
         case ["states" | "variables" | "accounts" as word, *listed] if not getattr(names, word):
-            setattr(names, word, _checked(listed, 64))
+            setattr(names, word, _checked(listed, COUNTS[word][1]))
         case ["call", number, name] if _number(number) not in names.calls:
             names.calls[_number(number)] = _checked([name], 1)[0]
         case ["arguments" | "locals" as word, who, *listed]:

@@ -4,13 +4,21 @@ from __future__ import annotations
 
 import ast
 import re
+import unicodedata
 import warnings
+from collections.abc import Iterator
 from dataclasses import dataclass
 
 from designer.errors import Failure
 from designer.language import MOST, MOST_LEVELS
 
 WIDEST = 160
+# Control, format and surrogate characters, and the separators of lines and paragraphs, as Unicode has its categories.
+UNSEEN = ("Cc", "Cf", "Cs", "Zl", "Zp")
+SEEN = "of control and format characters a source has tabs and line ends (LF, CR LF) only"
+# A name may also have marks that are no letters, so that a word ends only at a space or an ASCII sign other than _.
+WORD = re.compile(r"[^\s!-/:-@\[-^`{-~]+")
+DECIMAL = re.compile(r"(?<![\w.])[0-9][0-9_]*")
 TOO_LARGE = f"a number has too many digits: it is at most {MOST:,}"
 
 
@@ -42,14 +50,16 @@ class Source:
         return lines[number - 1] if 0 < number <= len(lines) else ""
 
     def parse(self) -> list[ast.stmt]:
+        self.check_characters()
         try:
             with warnings.catch_warnings():
                 warnings.simplefilter("ignore")
                 return ast.parse(self.text).body
         except SyntaxError as error:
-            # Python has a limit of its own for the digits of a number, in words that do not help here.
-            message = TOO_LARGE if error.msg.startswith("Exceeds the limit") else error.msg
-            raise self.failure(Place(error.lineno or 1, max(error.offset or 1, 1), 1), message) from None
+            # Python has a limit of its own for the digits of a number, without a place and in words that do not help here.
+            if error.msg.startswith("Exceeds the limit"):
+                raise self.failure(self.longest_number(), TOO_LARGE) from None
+            raise self.failure(Place(error.lineno or 1, max(error.offset or 1, 1), 1), error.msg) from None
         except (RecursionError, MemoryError):
             message = f"this is nested too deeply, most likely on this line: records stand on at most {MOST_LEVELS} levels"
             raise self.failure(Place(self.longest(), 1, 1), message) from None
@@ -58,9 +68,50 @@ class Source:
         """Python's parser ends lines by these characters and by no others."""
         return re.split(r"\r\n|\r|\n", self.text)
 
+    def code(self) -> Iterator[tuple[int, str]]:
+        """The lines without comments, by number. Text in quotes may hold a #, but is a mistake wherever it stands."""
+        for number, line in enumerate(self.lines(), 1):
+            yield number, line.split("#")[0]
+
     def longest(self) -> int:
         lengths = [len(line) for line in self.lines()]
         return lengths.index(max(lengths)) + 1
+
+    def longest_number(self) -> Place:
+        """Where the number with the most digits begins."""
+        found = ((len(digits[0]), number, digits.start() + 1) for number, line in self.code() for digits in DECIMAL.finditer(line))
+        _, number, column = max(found, default=(0, 1, 1))
+        return Place(number, column, 1)
+
+    def check_characters(self) -> None:
+        """Refuses what makes a source look other than it is read."""
+        for number, line in enumerate(self.text.split("\n"), 1):
+            if not line.isprintable():
+                self.check_seen(number, line.removesuffix("\r"))
+        for number, line in self.code():
+            if not line.isascii():
+                self.check_plain(number, line)
+
+    def check_seen(self, number: int, line: str) -> None:
+        for column, mark in enumerate(line, 1):
+            if mark != "\t" and unicodedata.category(mark) in UNSEEN:
+                message = f"the character U+{ord(mark):04X} is not allowed: {SEEN}"
+                raise self.failure(Place(number, column, 1), message)
+
+    def check_plain(self, number: int, line: str) -> None:
+        """Python's parser reads a name in Unicode's form NFKC, so that two that differ in the source would be one."""
+        for word in WORD.finditer(line):
+            plain = unicodedata.normalize("NFKC", word[0])
+            if plain != word[0]:
+                message = f"'{word[0]}' is not in Unicode's form NFKC, in which names are written: '{plain}'"
+                raise self.failure(Place(number, word.start() + 1, len(word[0])), message)
+
+    def last_word(self, node: ast.Attribute) -> ast.Name:
+        """The word after the point, as a part of its own."""
+        line, end = node.end_lineno or node.lineno, node.end_col_offset or node.col_offset
+        before = self.line(line).encode()[:end]
+        begin = end - len(before[before.rfind(b".") + 1 :].lstrip())
+        return ast.Name(id=node.attr, lineno=line, col_offset=begin, end_lineno=line, end_col_offset=end)
 
     def place(self, node: ast.AST) -> Place:
         """Where a part stands; a part without a place is the whole source."""

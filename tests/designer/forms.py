@@ -131,7 +131,7 @@ def check_statement(text: str, expected: bytes) -> None:
 
 
 def check_row(text: str, expected: bytes) -> None:
-    assert encode(make(altered("alice.gift(9)", text))[0].rows[1]) == expected
+    assert encode(make(altered("house.close()", text))[0].rows[2]) == expected
 
 
 def check_rule(text: str, expected: bytes) -> None:

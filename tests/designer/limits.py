@@ -140,6 +140,7 @@ LIMITS: dict[str, tuple[Build, int, int, str]] = {
     "levels, in a rule": (levels_in_rule, 16, 1, "36:64: the record of this stands on level 17, at most 16"),
     "levels, in a guard": (levels_in_guard, 16, 1, "27:81: the record of this stands on level 17, at most 16"),
     "steps": (steps, 1_024, 1, "27:2: the agreement has 1,025 steps, at most 1,024"),
+    # Every record has an even number of bytes, so that no source has 32,769.
     "bytes": (size, 32_768, 2, "650:1: the agreement has 32,770 bytes, at most 32,768"),
 }
 # Fields at their least and most.
