@@ -5,6 +5,7 @@ from __future__ import annotations
 import os
 import sys
 from pathlib import Path
+from typing import TextIO
 
 from designer.errors import INTERNAL, USAGE, Failure
 
@@ -21,6 +22,8 @@ also 0 all rules held, 1 some broken, 3 some spent and none broken; 70 a fault o
 def _two_paths(words: list[str]) -> tuple[Path, Path]:
     if len(words) != 2 or "" in words:
         raise Failure("usage: agreement make SOURCE FILE")
+    if words[1].endswith(os.sep):
+        raise Failure(f"{words[1]}: cannot be written: this names a folder, not a file")
     return Path(words[0]), Path(words[1])
 
 
@@ -66,13 +69,22 @@ def run(words: list[str]) -> int:
             return 0
         return COMMANDS[words[0]](words[1:])
     except Failure as failure:
-        print(failure, file=sys.stderr)
+        _tell(str(failure))
         return failure.status
 
 
-def _drop_output() -> None:
-    """Nothing more can be printed, also not at the end of the program."""
-    os.dup2(os.open(os.devnull, os.O_WRONLY), sys.stdout.fileno())
+def _tell(message: str) -> None:
+    """A line on standard error. Where that is closed or full the exit status alone has to say it."""
+    try:
+        print(message, file=sys.stderr, flush=True)
+    except OSError:
+        _drop(sys.stderr)
+
+
+def _drop(stream: TextIO | None) -> None:
+    """Nothing more can be printed there, also not at the end of the program."""
+    if stream is not None:
+        os.dup2(os.open(os.devnull, os.O_WRONLY), stream.fileno())
 
 
 def main() -> int:
@@ -84,16 +96,16 @@ def main() -> int:
         print(end="", flush=True)
         return status
     except BrokenPipeError:
-        _drop_output()
+        _drop(sys.stdout)
         return USAGE
     except OSError as error:
-        _drop_output()
-        print(f"agreement: the output cannot be written: {error.strerror}", file=sys.stderr)
+        _drop(sys.stdout)
+        _tell(f"agreement: the output cannot be written: {error.strerror}")
         return USAGE
     except KeyboardInterrupt:
         return 130
     except Exception as fault:
-        print(f"agreement: a fault of this program, not of what it was given: {type(fault).__name__}: {fault}", file=sys.stderr)
+        _tell(f"agreement: a fault of this program, not of what it was given: {type(fault).__name__}: {fault}")
         return INTERNAL
 
 

@@ -38,7 +38,7 @@ def _wanted(arguments: list[str]) -> Wanted:
     rule = None
     if len(words) == 2:
         if not (words[1].isascii() and words[1].isdigit() and len(words[1]) <= 10 and int(words[1]) <= WORD):
-            raise Failure(f"{USAGE}\nRULE is a rule's number, counted from 0, not '{words[1][:60]}'")
+            raise Failure(f"{USAGE}: RULE is a rule's number, counted from 0, not '{words[1][:60]}'")
         rule = int(words[1])
     return Wanted(Path(words[0]), rule, len(arguments) > len(words))
 
@@ -53,7 +53,8 @@ def status_of(explained: Explanation) -> int:
 def _judged(accepted: Accepted, rule: int | None) -> Explanation:
     rules = accepted.tree.rules
     try:
-        accepted.agreement.start()  # also where there is no rule, a failed start is a refusal
+        if rule is None:
+            accepted.agreement.start()  # also where there is no rule, a failed start is a refusal
         return explanation(accepted, range(len(rules)) if rule is None else [rule])
     except Refused as refused:
         known = f"; the agreement has {len(rules)} rules, counted from 0" if refused.number == NO_SUCH_RULE else ""

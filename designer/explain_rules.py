@@ -30,9 +30,9 @@ _OPERATIONS: tuple[Callable[[int, int], int], ...] = (
 
 
 _PROBLEMS = {
-    tree.PLUS: "over 4,294,967,295",
+    tree.PLUS: f"over {MOST:,}",
     tree.MINUS: "below zero",
-    tree.TIMES: "over 4,294,967,295",
+    tree.TIMES: f"over {MOST:,}",
     tree.DIVIDE: "a zero divisor",
     tree.REMAINDER: "a zero divisor",
 }

@@ -76,6 +76,8 @@ def write_all(contents: dict[Path, bytes]) -> None:
     try:
         for current, data in contents.items():
             _check_target(current)
+            if any(os.path.realpath(current) == os.path.realpath(other) for other in made):
+                raise ValueError("it is the same file as another that is written")
             made[current] = _written_beside(Path(os.path.realpath(current)), data)
         for current, temporary in made.items():
             temporary.replace(os.path.realpath(current))

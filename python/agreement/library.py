@@ -53,7 +53,8 @@ def built() -> Path:
 def _file(file: bytes) -> tuple[bytes, int]:
     if not isinstance(file, (bytes, bytearray, memoryview)):
         raise TypeError(f"a file is bytes, not {type(file).__name__}")
-    return bytes(file), len(file)
+    data = bytes(file)
+    return data, len(data)
 
 
 def _lent(words: Sequence[int]) -> tuple[ctypes.Array[ctypes.c_uint32], int]:

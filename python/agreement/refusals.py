@@ -34,5 +34,8 @@ class Refused(Exception):
         self.place = place
         self.units = units
         self.text = text(number)
-        where = f" at byte {place}" if has_place(number) else ""
-        super().__init__(f"refusal {number}{where}: {self.text}")
+        super().__init__(number, place, units)  # what an exception is copied by
+
+    def __str__(self) -> str:
+        where = f" at byte {self.place}" if has_place(self.number) else ""
+        return f"refusal {self.number}{where}: {self.text}"

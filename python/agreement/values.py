@@ -74,8 +74,10 @@ class Call:
         in_range("name", self.name, BYTE)
         in_range("sender", self.sender, BYTE)
         in_range("coins", self.coins, WORD)
-        missing = (0,) * (ARGUMENTS - len(self.arguments))
-        object.__setattr__(self, "arguments", exactly("arguments", (*self.arguments, *missing), ARGUMENTS))
+        given = words("argument", self.arguments)
+        if len(given) > ARGUMENTS:
+            raise ValueError(f"there are {len(given)} arguments; there may be up to {ARGUMENTS}")
+        object.__setattr__(self, "arguments", given + (0,) * (ARGUMENTS - len(given)))
 
 
 @dataclass(frozen=True)

@@ -104,8 +104,13 @@ def unwritable_target(folder: Path) -> None:
     Answer("make", source, folder / "pipe").fails("pipe: cannot be written: this is no file")
     Answer("make", source, folder / ("n" * 300)).fails("cannot be written: File name too long")
     Answer("make", source, source).fails("this is the source, and would be written over")
-    Answer("make", source, "/").fails("/: cannot be written: this is a folder, not a file")
-    assert names_in(folder) == ["other.names", "pipe", "sale.txt", "there"]
+    Answer("make", source, "/").fails("/: cannot be written: this names a folder, not a file")
+    Answer("make", source, f"{folder}/new/").fails("new/: cannot be written: this names a folder, not a file")
+    (folder / "one").touch()
+    (folder / "one.names").symlink_to("one")
+    Answer("make", source, folder / "one").fails("one.names: cannot be written: it is the same file as another that is written")
+    assert (folder / "one").read_bytes() == b""
+    assert names_in(folder) == ["one", "one.names", "other.names", "pipe", "sale.txt", "there"]
     assert names_in(folder / "there") == []
 
 

@@ -18,7 +18,7 @@ use Rattle.rules.specs.Syntax.{Rule, Agreement}
 use Rattle.rules.specs.Expanding.{expansion, table}
 use Rattle.rules.specs.Accepting.{good, fileOf, onFile, lent, written, expandFile}
 use Rattle.rules.specs.Calling.{startTree, callTree, start, call}
-use Rattle.rules.specs.Stepping.{beginsWith, startExpanded, callExpanded}
+use Rattle.rules.specs.Stepping.{beginsWith}
 use Rattle.rules.specs.Judging.{Ruling, broken, held, spent, breaks, breaksRun, breaksExpanded, breaking, breakingExpanded, rowsAt}
 use Rattle.rules.specs.Judging.{listsFor, ruling, judged, judgedOf, verdict}
 use Rattle.rules.specs.Answers.{verdictNumbers, judgedNumbers}

@@ -15,17 +15,14 @@ use Rattle.rules.specs.declared.Returned.the-variants.{NoValue, Given}
 use Rattle.rules.specs.declared.State.{State}
 use Rattle.rules.specs.declared.Value.{Value}
 use Rattle.rules.specs.declared.Value.the-variants.{Is, Failed}
-use Rattle.rules.specs.declared.Verdict.{Verdict}
 use Rattle.rules.specs.declared.Verdict.the-variants as verdict
 use Rattle.rules.specs.Basics.{each}
 use Rattle.rules.specs.Text.{text}
 use Rattle.rules.specs.Encoding.{word16, word32, encoded, constant, variable, local, argument, context, binary, not}
-use Rattle.rules.specs.Encoding.{set, transfer, require, return, block, ifThen, ifElse, while, for}
-use Rattle.rules.specs.Encoding.{transition, row, payingRow, always, rule}
+use Rattle.rules.specs.Encoding.{set, transfer, require, return, block, ifThen, ifElse, while, for, transition, row, payingRow, always, rule}
 use Rattle.rules.specs.Accepting.{refusalAt, refusal, lent}
 use Rattle.rules.specs.Calling.{outcome}
-use Rattle.rules.specs.Tasks.{Task, expanding, calling, callingFrom, judging, breakingOn, reporting}
-use Rattle.rules.specs.Tasks.{ofRead, ofExpanded, ofCalled, ofJudged, ofRecord, toRecord}
+use Rattle.rules.specs.Tasks.{Task, expanding, calling, callingFrom, judging, breakingOn, reporting, ofRead, ofExpanded, ofCalled, ofJudged, ofRecord, toRecord}
 use Rattle.rules.specs.Tasks.{Result, expanded, ran, ruled, broke, printed, numbers, recorded, judgement, noRows, Holds}
 use Rattle.rules.specs.Counter.{counter, counterSteps}
 
