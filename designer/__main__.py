@@ -4,6 +4,7 @@ from __future__ import annotations
 
 import os
 import sys
+from io import TextIOWrapper
 from pathlib import Path
 from typing import TextIO
 
@@ -89,8 +90,9 @@ def _drop(stream: TextIO | None) -> None:
 
 def main() -> int:
     # A source is UTF-8 wherever it is printed; a path that is not still has to be told of. A closed stream is None.
-    for stream in filter(None, (sys.stdout, sys.stderr)):
-        stream.reconfigure(encoding="utf-8", errors="backslashreplace")
+    for stream in (sys.stdout, sys.stderr):
+        if isinstance(stream, TextIOWrapper):
+            stream.reconfigure(encoding="utf-8", errors="backslashreplace")
     try:
         status = run(sys.argv[1:])
         print(end="", flush=True)

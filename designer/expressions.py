@@ -10,7 +10,14 @@ from designer.source import Mistake
 from designer.tree import AT_MOST, EQUAL, LESS, UNEQUAL
 from designer.tree import Argument, Binary, Constant, Context, Expression, Local, Not, Variable
 
-LEAVES = {"variable": Variable, "local": Local, "argument": Argument, "context": Context, "state": Constant, "account": Constant}
+LEAVES: dict[str, type[Variable | Local | Argument | Context | Constant]] = {
+    "variable": Variable,
+    "local": Local,
+    "argument": Argument,
+    "context": Context,
+    "state": Constant,
+    "account": Constant,
+}
 NAMED = ("state", "account")
 # What the words of the context are, where they meet the name of a state or account.
 CONTEXT_KINDS = {"sender": "account", "coins": "amount", "own": "amount", "state": "state"}

@@ -61,8 +61,8 @@ class Maker:
             case ast.Expr(value=ast.Constant(value=str())):
                 raise Mistake(node, "text has no meaning here: write a comment, which begins with #")
             case _:
-                word = called(node)
-                hint = f"'{word}' stands in an action" if word in FORMS else ALLOWED
+                tried = called(node)
+                hint = f"'{tried}' stands in an action" if tried in FORMS else ALLOWED
                 raise Mistake(node, f"no such part of an agreement; {hint}")
 
     def sort_action(self, node: ast.FunctionDef) -> None:

@@ -37,7 +37,7 @@ class Meanings:
     """The meanings of names, by name: those above, and the words of the context that have a value here."""
 
     def __init__(self, words: tuple[str, ...] = (), above: Meanings | None = None) -> None:
-        self.names = dict(above.names) if above else {}
+        self.names: dict[str, Meaning] = dict(above.names) if above else {}
         self.names |= {word: Meaning("context", CONTEXT.index(word), 0) for word in words}
 
     def declare(self, node: ast.AST, name: str, kind: str, index: int) -> None:

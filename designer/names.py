@@ -48,17 +48,17 @@ class Names:
 
 
 def calls_of(tree: Agreement) -> list[int]:
-    return sorted({part.name for part in (*tree.transitions, *tree.rows)})
+    return sorted(transition_names(tree) | {row.name for row in tree.rows})
 
 
 def transition_names(tree: Agreement) -> set[int]:
     return {transition.name for transition in tree.transitions}
 
 
-def _used(parts: Iterable[Statement | Expression], kind: type[Local] | type[Argument]) -> int:
+def _used(parts: Iterable[Statement | Expression], kind: type[Local | Argument]) -> int:
     """One more than the highest local or argument in these parts."""
     records = [record for part in parts for record in walk(part)]
-    indices = [record.index for record in records if isinstance(record, kind)]
+    indices = [record.index for record in records if isinstance(record, (Local, Argument)) and isinstance(record, kind)]
     if kind is Local:
         indices += [record.target - FIRST_LOCAL for record in records if isinstance(record, Set)]
     return max(indices, default=-1) + 1

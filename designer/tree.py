@@ -409,7 +409,7 @@ def _expression(data: bytes, at: int) -> Expression:
         case 81:
             (operand,) = children_of(data, at, 0)
             return Not(_expression(data, operand), at)
-    leaves = {65: Variable, 66: Local, 67: Argument, 68: Context}
+    leaves: dict[int, type[Variable | Local | Argument | Context]] = {65: Variable, 66: Local, 67: Argument, 68: Context}
     if kind not in leaves:
         raise ValueError(f"the record at byte {at} is no expression")
     return leaves[kind](number(data, at + 4, 2), at)

@@ -3,8 +3,9 @@
 import ctypes
 import os
 import subprocess
-from collections.abc import Sequence
+from collections.abc import Iterable, Sequence
 from pathlib import Path
+from typing import Any
 
 from . import values
 from .refusals import Refused
@@ -16,14 +17,15 @@ MOST_STEPS = 1024
 FROM_THE_STATE = 20
 
 _Answer = tuple[int, ...]
-_BYTES = [ctypes.c_char_p, ctypes.c_size_t]
-_WORDS = [ctypes.POINTER(ctypes.c_uint32), ctypes.c_size_t]
+_Types = list[Any]  # of ctypes, whose classes have no type in common that is open to others
+_BYTES: _Types = [ctypes.c_char_p, ctypes.c_size_t]
+_WORDS: _Types = [ctypes.POINTER(ctypes.c_uint32), ctypes.c_size_t]
 _RECORD = ctypes.c_uint32 * values.RECORD
 _ARGUMENTS = ctypes.c_uint32 * values.ARGUMENTS
-_CALL = [ctypes.c_uint8, ctypes.c_uint8, ctypes.c_uint32, _ARGUMENTS]
+_CALL: _Types = [ctypes.c_uint8, ctypes.c_uint8, ctypes.c_uint32, _ARGUMENTS]
 
 # What each function takes before its answer, and how many entries its answer has.
-_FUNCTIONS = {
+_FUNCTIONS: dict[str, tuple[_Types, int]] = {
     "read": (_BYTES, 2),
     "expand": (_BYTES + _WORDS, 3),
     "start": (_BYTES + [_RECORD], 5),
@@ -73,9 +75,9 @@ def _refuse(answer: _Answer, units: int = 0) -> None:
         raise Refused(answer[0], answer[1], units)
 
 
-def _outcome(answer: _Answer, record: Sequence[int]) -> Outcome:
+def _outcome(answer: _Answer, record: Iterable[int]) -> Outcome:
     refusal, _, has_value, value, units = answer
-    return Outcome(refusal, value if has_value else None, units, Record.of_words(record))
+    return Outcome(refusal, value if has_value else None, units, Record.of_words(tuple(record)))
 
 
 class Library:
