@@ -230,11 +230,12 @@ class Maker:
 
     def no_call(self, word: str) -> str:
         """What is said of a row's name that is no call; only one without a meaning can be declared as it is."""
-        kind = "context" if word in RESERVED else self.meanings.names[word].kind if word in self.meanings.names else None
+        known = self.meanings.names.get(word)
         hint = "a call that only fallback answers is declared by"
-        if kind is None:
+        if known is None and word not in RESERVED:
             return f"'{word}' is no transition's name; {hint} calls({word}=NUMBER)"
-        return f"'{word}' is {ARTICLES[kind]}, not a call; {hint} calls(NAME=NUMBER), with a name that has no other meaning"
+        is_what = ARTICLES[known.kind if known else "context"]
+        return f"'{word}' is {is_what}, not a call; {hint} calls(NAME=NUMBER), with a name that has no other meaning"
 
     def passed(self, name: str, node: ast.expr) -> int:
         """An argument of a row: a number, or the name of an account or state, which stands for its number."""

@@ -15,7 +15,6 @@ from designer.language import MOST, MOST_LEVELS
 WIDEST = 160
 # Control, format and surrogate characters, and the separators of lines and paragraphs, as Unicode has its categories.
 UNSEEN = ("Cc", "Cf", "Cs", "Zl", "Zp")
-SEEN = "of control and format characters a source has tabs and line ends (LF, CR LF) only"
 # A name may also have marks that are no letters, so that a word ends only at a space or an ASCII sign other than _.
 WORD = re.compile(r"[^\s!-/:-@\[-^`{-~]+")
 DECIMAL = re.compile(r"(?<![\w.])[0-9][0-9_]*")
@@ -79,9 +78,10 @@ class Source:
 
     def longest_number(self) -> Place:
         """Where the number with the most digits begins."""
-        found = ((len(digits[0]), number, digits.start() + 1) for number, line in self.code() for digits in DECIMAL.finditer(line))
-        _, number, column = max(found, default=(0, 1, 1))
-        return Place(number, column, 1)
+        numbers = ((number, digits) for number, line in self.code() for digits in DECIMAL.finditer(line))
+        places = (Place(number, digits.start() + 1, len(digits[0])) for number, digits in numbers)
+        found = max(places, key=lambda place: place.length, default=Place(1, 1, 1))
+        return Place(found.line, found.column, 1)
 
     def check_characters(self) -> None:
         """Refuses what makes a source look other than it is read."""
@@ -95,8 +95,8 @@ class Source:
     def check_seen(self, number: int, line: str) -> None:
         for column, mark in enumerate(line, 1):
             if mark != "\t" and unicodedata.category(mark) in UNSEEN:
-                message = f"the character U+{ord(mark):04X} is not allowed: {SEEN}"
-                raise self.failure(Place(number, column, 1), message)
+                allowed = "of control and format characters a source has tabs and line ends (LF, CR LF) only"
+                raise self.failure(Place(number, column, 1), f"the character U+{ord(mark):04X} is not allowed: {allowed}")
 
     def check_plain(self, number: int, line: str) -> None:
         """Python's parser reads a name in Unicode's form NFKC, so that two that differ in the source would be one."""

@@ -421,7 +421,7 @@ STATEMENTS: list[Mistake] = [
         "29:12",
         "'alice' is an account: it can be compared by == and !=, set and returned, and be paid by transfer",
     ),
-    (f"paid = 1 + {'9' * 5_000}", "29:16", "a number has too many digits: it is at most 4,294,967,295"),
+    (f"paid = {'9' * 5_000} + {'9' * 5_000}", "29:12", "a number has too many digits: it is at most 4,294,967,295"),
     (f"paid = (\n        1 + {'9_' * 5_000}9\n    )", "30:13", "a number has too many digits: it is at most 4,294,967,295"),
     ("paid = 007", "29:12", ""),
     ("paid = 1 $ 2", "29:14", ""),
