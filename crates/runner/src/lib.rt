@@ -2,7 +2,7 @@
 pub mod accepted;
 pub mod expanded;
 pub mod interface;
-mod layout;
+pub mod layout;
 pub mod steps;
 pub mod unexpanded;
 

@@ -25,7 +25,7 @@ use Rattle.searcher.specs.Standing.{ExpressionAt, Holds, breaksAfter, na
 
 -- ---- an expression's value in a rule: there are no locals and no arguments, and the code lends zeros
 
-zeros : (n i : ℕ) → _≡_ {A = ℕ} (getD (replicate n 0) i 0) 0
+pub zeros : (n i : ℕ) → _≡_ {A = ℕ} (getD (replicate n 0) i 0) 0
 zeros zero i = refl
 zeros (suc n) zero = refl
 zeros (suc n) (suc i) = zeros n i

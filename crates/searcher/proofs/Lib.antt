@@ -4,5 +4,6 @@ pub mod Rulings
 pub mod Lists
 pub mod Judges
 pub mod Runs
+pub mod Caching
 pub mod Answers
 pub mod Numbers

@@ -3,6 +3,7 @@
 --     joined            the ruling on two parts, one after the other
 --     pushed            lists that begin with a row are ruled on by what follows the row
 --     goes, stops, done one turn of a loop over the parts, and its end
+--     all-held, ..      lists of which none breaks the rule, ruled on again under another bound
 -- Assumes nothing.
 use Prim.Native.Nat.{ℕ, zero, suc, _+_, _-_, _<_, _≤_}
 use mathlib.Core.Path.{_≡_, refl, sym, ap, subst, fun-ext, _∙_}
@@ -12,8 +13,10 @@ use mathlib.Core.List.{List, [], _∷_, _++_, map, append-nil, append-assoc}
 use native.Mathlib.Nat.{sub-zero}
 use native.Mathlib.Numerals.{add-one}
 use native.Mathlib.Omega.{arith}
+use borrow.Author.Tests.{le-leb, lt-leb, leb-true}
 use lib.Dec.{leb, leb·zero, leb·suc-zero, leb·suc-suc}
 use lib.ListN.{length, take}
+use lib.Seq.{take-all}
 use types.Run.{OneOf}
 use denote.Enum.Declared.{tagOf}
 use Rattle.rules.proofs.Verdict as Verdicts
@@ -241,3 +244,73 @@ module _ (bound : ℕ) (p : List ℕ → Bool) (l : List ℕ) (n : ℕ) where
   pub end-held : n < bound → p [] ≡ false → onward bound p l n ([] ∷ []) ≡ held (n + 1)
   unfolding continued
   end-held h b = end-next h ∙ rw b
+
+-- ---- lists of which none breaks the rule, under another bound
+
+module _ (p : List ℕ → Bool) where
+  none-before : (xs : List (List ℕ)) (k : ℕ) → first p xs ≡ nowhere → first p (take k xs) ≡ nowhere
+  unfolding first firstFrom oneLater
+  none-before xs zero h = refl
+  none-before [] (suc k) h = h
+  none-before (x ∷ xs) (suc k) h = first-cons p x (take k xs) ∙ go (p x) (first p xs) (sym (first-cons p x xs) ∙ h) (none-before xs k)
+    where
+      go : (b : Bool) (f : First) → (if b then at 1 x else oneLater f) ≡ nowhere → (f ≡ nowhere → first p (take k xs) ≡ nowhere)
+          → (if b then at 1 x else oneLater (first p (take k xs))) ≡ nowhere
+      go true f h g = absurd (let z : _≡_ {A = ℕ} 0 1 = cc in omega arith)
+      go false (at n l) h g = absurd (let z : _≡_ {A = ℕ} 0 1 = cc in omega arith)
+      go false nowhere h g = rw (g refl)
+
+  module _ (xs : List (List ℕ)) (n : ℕ) where
+    -- a held ruling's number is that of the lists
+    all-held : (k : ℕ) → ruledOn k p xs ≡ held n → (length xs ≡ n) × (n ≤ k) × (first p xs ≡ nowhere)
+    unfolding ruledOn ruledBy
+    all-held k h = go (first p (take k xs)) (leb (length xs) k) refl refl h
+      where
+        go : (f : First) (b : Bool) → first p (take k xs) ≡ f → leb (length xs) k ≡ b → ruledBy (length xs) k f ≡ held n
+            → (length xs ≡ n) × (n ≤ k) × (first p xs ≡ nowhere)
+        go (at m l) b e d h = absurd (let z : _≡_ {A = ℕ} 0 1 = cc in omega arith)
+        go nowhere true e d h =
+            let same : length xs ≡ n = let w = rw d at h in cc in
+            let fits : length xs ≤ k = leb-true _ _ d in
+            (same, omega arith, rw (take-all k xs fits) at e)
+        go nowhere false e d h = absurd (let w = rw d at h in let z : _≡_ {A = ℕ} 0 1 = cc in omega arith)
+
+    -- none of the n lists breaks the rule: within a bound that they fit, and where it falls among them
+    module _ (none : first p xs ≡ nowhere) (all : length xs ≡ n) (k : ℕ) where
+      none-held : n ≤ k → ruledOn k p xs ≡ held n
+      unfolding ruledOn ruledBy
+      none-held less =
+          let fits : length xs ≤ k = omega arith in
+          rw (none-before xs k none, le-leb (length xs) k fits, all)
+
+      none-spent : k < n → ruledOn k p xs ≡ spent k
+      unfolding ruledOn ruledBy
+      none-spent less =
+          let over : k < length xs = omega arith in
+          rw (none-before xs k none, lt-leb (length xs) k over)
+
+-- n lists that were held, at once, after t others
+module _ (bound : ℕ) (p : List ℕ → Bool) (l : List ℕ) (t n : ℕ) (xs : List (List ℕ)) (h : ruledOn n p xs ≡ held n) where
+  pub at-once-held : n ≤ bound - t → onward bound p l t xs ≡ held (t + n)
+  unfolding continued
+  at-once-held less = let a = all-held p xs n n h in rw (none-held p xs n (a .2) (a .0) (bound - t) less)
+
+  pub at-once-spent : bound - t < n → (m : ℕ) → m ≡ t + (bound - t) → onward bound p l t xs ≡ spent m
+  unfolding continued
+  at-once-spent less m e = let a = all-held p xs n n h in rw (none-spent p xs n (a .2) (a .0) (bound - t) less, e)
+
+-- what was held after t others is held by itself
+pub held-alone : (bound : ℕ) (p : List ℕ → Bool) (l : List ℕ) (t m : ℕ) (xs : List (List ℕ)) (f : Judged)
+    → f ≡ judgedOf (onward bound p l t xs) → f .verdict ≡ Held m → (t ≤ m) × (ruledOn (m - t) p xs ≡ held (m - t))
+unfolding continued
+held-alone bound p l t m xs f e h =
+    go (ruledOn (bound - t) p xs) refl (held-verdict bound p l (onward bound p l t xs) m (ap (λ (f : Judged). f .verdict) (sym e) ∙ h))
+  where
+    go : (v : Ruling) → ruledOn (bound - t) p xs ≡ v → continued t l v ≡ held m → (t ≤ m) × (ruledOn (m - t) p xs ≡ held (m - t))
+    go (broken i k) d h = absurd (let z : _≡_ {A = ℕ} 0 1 = cc in omega arith)
+    go (held i) d h =
+        let z : t + i ≡ m = cc in
+        let w : m - t ≡ i = omega arith in
+        let a = all-held p xs i (bound - t) d in
+        (omega arith, rw w (none-held p xs i (a .2) (a .0) i (omega arith)))
+    go (spent i) d h = absurd (let z : _≡_ {A = ℕ} 0 1 = cc in omega arith)

@@ -3,6 +3,10 @@
 use crate::Plan;
 use crate::Position;
 use crate::Status;
+use crate::cache::WORDS;
+use crate::cache::is_kept;
+use crate::cache::lookup;
+use crate::cache::store;
 use crate::entries::call_at;
 use crate::standing::after;
 use rules::Answer;
@@ -16,9 +20,10 @@ ghost use mathlib.Core.List.{List, [], _∷_, _++_, map};
 ghost use Prim.Native.Nat.{ℕ, _+_, _-_, _<_, _≤_};
 ghost use lib.ListN.{replicate};
 ghost use Rattle.rules.specs.Lists.{listsOf, listsTo};
-ghost use Rattle.rules.specs.Judging.{Ruling, isCompleted, ruledOn, judged, judgedOf};
+ghost use Rattle.rules.specs.Judging.{Ruling, held, isCompleted, ruledOn, judged, judgedOf};
 ghost use Rattle.machine.specs.Calls.{Fits};
 ghost use Rattle.searcher.specs.Searching.{continued, Planned, runOf, breaksIn};
+ghost use Rattle.searcher.specs.Caching.{Sound};
 
 // A verdict that shows no list.
 pub fn unshown(verdict: Verdict) -> Judged
@@ -43,6 +48,21 @@ fn ended(broken: bool, length: u8, tried: u32, bound: u32) -> Judged
         return unshown(Verdict::Broken(tried + 1, length));
     }
     unshown(Verdict::Held(tried + 1))
+}
+
+// The end of so many lists at once, of which none breaks the rule. The bound may fall among them.
+fn all_ended(number: u32, tried: u32, bound: u32) -> Judged
+    requires { ⌜ (number ≡ 0 → ⊥) ⌝ }
+    ensures { λ r. ⌜ ((p : List ℕ → Bool) (ls : List (List ℕ)) (l : List ℕ) → ruledOn number p ls ≡ held number →
+        r ≡ judgedOf (continued tried l (ruledOn (bound - tried) p ls))) ⌝ }
+{
+    if bound <= tried {
+        return unshown(Verdict::Spent(tried));
+    }
+    if bound - tried < number {
+        return unshown(Verdict::Spent(bound));
+    }
+    unshown(Verdict::Held(tried + number))
 }
 
 // Puts a row at its position in the list that a verdict shows, where a zero stood.
@@ -124,7 +144,7 @@ fn called(
 }
 
 // Tries every list that begins with the `at` rows that led to this position and has `left` more, after `tried` others. Where it
-// shows a list, those rows are zeros.
+// shows a list, those rows are zeros. Lists that the cache knows of are not tried again.
 fn extend(
     file: &[u8],
     words: &[u32],
@@ -135,12 +155,15 @@ fn extend(
     position: Position,
     variables: &[u32; 16],
     balances: &[u32; 8],
+    cache: &mut [u32],
     at: u8,
     left: usize,
     tried: u32,
 ) -> Judged
     requires { ⌜ Planned (now file) (now words) (now nodes) (now entries) (now calls) plan
-        × Fits (plan .prepared .fields) (runOf position (now variables) (now balances) .state) × (at + left ≤ 8) ⌝ }
+        × Fits (plan .prepared .fields) (runOf position (now variables) (now balances) .state) × (at + left ≤ 8)
+        × Sound (now file) (now words) (now nodes) (now entries) (now calls) plan (now cache) ⌝ }
+    ensures { λ _. ⌜ Sound (now (file .entry)) (now (words .entry)) (now (nodes .entry)) (now (entries .entry)) (now (calls .entry)) plan (now (cache .exit)) ⌝ }
     ensures { λ r. ⌜ ((g : Planned (now (file .entry)) (now (words .entry)) (now (nodes .entry)) (now (entries .entry)) (now (calls .entry)) plan) →
         r ≡ judgedOf (continued tried (replicate at 0) (ruledOn (plan .bound - tried)
         (breaksIn g (runOf position (now (variables .entry)) (now (balances .entry)))) (listsOf (plan .count) left)))) ⌝ }
@@ -149,6 +172,65 @@ fn extend(
         let status = position.status;
         return ended(status.broken, at, tried, plan.bound);
     }
+    let number = lookup(cache, position, variables, balances, plan.count, left);
+    if number != 0 {
+        return all_ended(number, tried, plan.bound);
+    }
+    let f = extend_each(
+        file,
+        words,
+        nodes,
+        entries,
+        calls,
+        plan,
+        position,
+        variables,
+        balances,
+        cache,
+        at,
+        left,
+        tried,
+    );
+    let verdict = f.verdict;
+    let Verdict::Held(n) = verdict else {
+        return f;
+    };
+    store(
+        cache,
+        position,
+        variables,
+        balances,
+        plan.count,
+        left,
+        n - tried,
+    );
+    f
+}
+
+// The same, row by row.
+fn extend_each(
+    file: &[u8],
+    words: &[u32],
+    nodes: &[u32; 1091],
+    entries: &[u32; 1024],
+    calls: &[u32; 112],
+    plan: Plan,
+    position: Position,
+    variables: &[u32; 16],
+    balances: &[u32; 8],
+    cache: &mut [u32],
+    at: u8,
+    left: usize,
+    tried: u32,
+) -> Judged
+    requires { ⌜ Planned (now file) (now words) (now nodes) (now entries) (now calls) plan
+        × Fits (plan .prepared .fields) (runOf position (now variables) (now balances) .state) × (0 < left) × (at + left ≤ 8)
+        × Sound (now file) (now words) (now nodes) (now entries) (now calls) plan (now cache) ⌝ }
+    ensures { λ _. ⌜ Sound (now (file .entry)) (now (words .entry)) (now (nodes .entry)) (now (entries .entry)) (now (calls .entry)) plan (now (cache .exit)) ⌝ }
+    ensures { λ r. ⌜ ((g : Planned (now (file .entry)) (now (words .entry)) (now (nodes .entry)) (now (entries .entry)) (now (calls .entry)) plan) →
+        r ≡ judgedOf (continued tried (replicate at 0) (ruledOn (plan .bound - tried)
+        (breaksIn g (runOf position (now (variables .entry)) (now (balances .entry)))) (listsOf (plan .count) left)))) ⌝ }
+{
     let mut n = tried;
     let mut row: u8 = 0;
     while row < plan.count {
@@ -162,6 +244,7 @@ fn extend(
             position,
             variables,
             balances,
+            cache,
             at,
             left - 1,
             n,
@@ -188,13 +271,16 @@ fn extend_by(
     position: Position,
     variables: &[u32; 16],
     balances: &[u32; 8],
+    cache: &mut [u32],
     at: u8,
     left: usize,
     tried: u32,
     row: u8,
 ) -> Judged
     requires { ⌜ Planned (now file) (now words) (now nodes) (now entries) (now calls) plan × (row < plan .count)
-        × Fits (plan .prepared .fields) (runOf position (now variables) (now balances) .state) × (at + 1 + left ≤ 8) ⌝ }
+        × Fits (plan .prepared .fields) (runOf position (now variables) (now balances) .state) × (at + 1 + left ≤ 8)
+        × Sound (now file) (now words) (now nodes) (now entries) (now calls) plan (now cache) ⌝ }
+    ensures { λ _. ⌜ Sound (now (file .entry)) (now (words .entry)) (now (nodes .entry)) (now (entries .entry)) (now (calls .entry)) plan (now (cache .exit)) ⌝ }
     ensures { λ r. ⌜ ((g : Planned (now (file .entry)) (now (words .entry)) (now (nodes .entry)) (now (entries .entry)) (now (calls .entry)) plan) →
         r ≡ judgedOf (continued tried (replicate at 0) (ruledOn (plan .bound - tried)
         (breaksIn g (runOf position (now (variables .entry)) (now (balances .entry)))) (map (λ l. row ∷ l) (listsOf (plan .count) left))))) ⌝ }
@@ -223,6 +309,7 @@ fn extend_by(
         next,
         &v,
         &b,
+        cache,
         at + 1,
         left,
         tried,
@@ -230,8 +317,8 @@ fn extend_by(
     with_row(f, at, row)
 }
 
-// Tries the lists by length, up to the depth, from the state that the start led to.
-pub fn search(
+// The lists by length.
+fn by_length(
     file: &[u8],
     words: &[u32],
     nodes: &[u32; 1091],
@@ -241,8 +328,10 @@ pub fn search(
     fresh: State,
     status: Status,
     depth: usize,
+    cache: &mut [u32],
 ) -> Judged
-    requires { ⌜ Planned (now file) (now words) (now nodes) (now entries) (now calls) plan × Fits (plan .prepared .fields) fresh × (depth ≤ 8) ⌝ }
+    requires { ⌜ Planned (now file) (now words) (now nodes) (now entries) (now calls) plan × Fits (plan .prepared .fields) fresh × (depth ≤ 8)
+        × Sound (now file) (now words) (now nodes) (now entries) (now calls) plan (now cache) ⌝ }
     ensures { λ r. ⌜ ((g : Planned (now (file .entry)) (now (words .entry)) (now (nodes .entry)) (now (entries .entry)) (now (calls .entry)) plan) →
         r ≡ judgedOf (ruledOn (plan .bound) (breaksIn g (record { state = fresh; status = status })) (listsTo (plan .count) depth))) ⌝ }
 {
@@ -266,6 +355,7 @@ pub fn search(
             position,
             &variables,
             &balances,
+            cache,
             0,
             length,
             n,
@@ -278,4 +368,51 @@ pub fn search(
         length += 1;
     }
     unshown(Verdict::Held(n))
+}
+
+// Tries the lists by length, up to the depth, from the state that the start led to. A search in which nothing would be kept has a
+// cache without entries.
+pub fn search(
+    file: &[u8],
+    words: &[u32],
+    nodes: &[u32; 1091],
+    entries: &[u32; 1024],
+    calls: &[u32; 112],
+    plan: Plan,
+    fresh: State,
+    status: Status,
+    depth: usize,
+) -> Judged
+    requires { ⌜ Planned (now file) (now words) (now nodes) (now entries) (now calls) plan × Fits (plan .prepared .fields) fresh × (depth ≤ 8) ⌝ }
+    ensures { λ r. ⌜ ((g : Planned (now (file .entry)) (now (words .entry)) (now (nodes .entry)) (now (entries .entry)) (now (calls .entry)) plan) →
+        r ≡ judgedOf (ruledOn (plan .bound) (breaksIn g (record { state = fresh; status = status })) (listsTo (plan .count) depth))) ⌝ }
+{
+    if is_kept(plan.count, depth) {
+        let mut cache = [0u32; WORDS];
+        return by_length(
+            file,
+            words,
+            nodes,
+            entries,
+            calls,
+            plan,
+            fresh,
+            status,
+            depth,
+            &mut cache,
+        );
+    }
+    let mut cache = [0u32; 1];
+    by_length(
+        file,
+        words,
+        nodes,
+        entries,
+        calls,
+        plan,
+        fresh,
+        status,
+        depth,
+        &mut cache,
+    )
 }

@@ -1,91 +1,23 @@
--- The loop over the lengths: the ruling on all the lists is that on those that are left.
-use Prim.Native.Nat.{suc, _-_, _≤_}
-use mathlib.Core.Path.{_≡_, sym, ap, _∙_}
-use mathlib.Core.List.{[]}
-use native.Mathlib.Omega.{arith}
+-- In a cache of zeros every entry is empty.
 use borrow.Author.Needs.{needs}
-use Rattle.rules.specs.Basics.{each}
-use Rattle.rules.specs.Lists.{listsOf, listsTo}
-use Rattle.rules.specs.Judging.{ruledOn, judgedOf}
-use Rattle.searcher.specs.Searching.{Run, runOf, Planned, breaksIn}
-use Rattle.searcher.proofs.Rulings.{onward, whole, not-held, goes, stops, done}
+use Rattle.searcher.proofs.Caching.{empty-sound}
 use Rattle.searcher.proofs.search.search.Statement.{statement}
 use Rattle.searcher.proofs.search.search.Tie as tie
 
-abbrev Inv-loop : tie.InvT-loop
-Inv-loop file words nodes entries calls plan depth variables balances position n₀ length₀ n length =
-    (length ≤ suc depth)
-    × ((g : Planned file words nodes entries calls plan) →
-    let p = breaksIn g (runOf position variables balances) in
-    ruledOn (plan .bound) p (listsTo (plan .count) depth) ≡ onward (plan .bound) p [] n (each (listsOf (plan .count)) length (suc depth - length)))
+by-length-requires : tie.Need-by-length-requires
+by-length-requires c κs = let p = c .before .before .before .before .before .pre in (p .0, p .1, p .2, empty-sound _ _ _ _ _ _ 7424)
 
-abbrev μ-loop : tie.MeasureT-loop
-μ-loop file words nodes entries calls plan depth variables balances position n₀ length₀ n length = suc depth - length
-
-abbrev start : tie.At-loop Inv-loop μ-loop → tie.Start Inv-loop μ-loop
-start h = h .before .before .before .before .before
-
-abbrev run : tie.Start Inv-loop μ-loop → Run
-run s = record { state = s .args .fresh; status = s .args .status }
-
-loop-holds : tie.Need-loop-holds Inv-loop μ-loop
-loop-holds c = (omega arith, λ g. whole _ _ _ _)
-
-extend-requires : tie.Need-extend-requires Inv-loop μ-loop
-extend-requires c κs =
-    let i = c .before .before in
-    let s = start (i .before) in
-    (s .pre .0, s .pre .1, omega (arith, s .pre .2, i .loop-test .taken))
-
-returns : tie.Need-returns Inv-loop μ-loop
-returns c = λ g.
-    let e = c .before in
-    let i = e .before .before .before in
-    let h = i .before in
-    let s = start h in
-    let a = s .args in
-    rw (h .loop .inv .1 g)
-    (stops (a .plan .bound) (breaksIn g (run s)) [] (listsOf (a .plan .count)) (h .loop .length) (suc (a .depth)) (h .loop .n) (e .extend .result)
-    (omega (arith, i .loop-test .taken)) (e .extend .ensures g) (not-held _ (c .match .keys2)))
-
-loop-again : tie.Need-loop-again Inv-loop μ-loop
-loop-again c =
-    let v = c .before in
-    let e = v .before .before in
-    let i = e .before .before .before in
-    let h = i .before in
-    let s = start h in
-    let a = s .args in (
-      omega (arith, i .loop-test .taken),
-      λ g. h .loop .inv .1 g
-          ∙ goes (a .plan .bound) (breaksIn g (run s)) [] (listsOf (a .plan .count)) (h .loop .length) (suc (a .depth)) (h .loop .n) (e .extend .result)
-          (v .verdict .given .0 .0) (omega (arith, i .loop-test .taken)) (e .extend .ensures g) (v .verdict .given .1),
-    )
-
-returns-2 : tie.Need-returns-2 Inv-loop μ-loop
-unfolding judgedOf
-returns-2 c = λ g.
-    let i = c .before in
-    let h = i .before in
-    let s = start h in
-    let a = s .args in
-    c .unshown .ensures
-    ∙ ap judgedOf
-    (sym (h .loop .inv .1 g
-    ∙ done (a .plan .bound) (breaksIn g (run s)) [] (listsOf (a .plan .count)) (h .loop .length) (suc (a .depth)) (h .loop .n) (omega (arith, i .loop-test .left))))
+by-length-requires-2 : tie.Need-by-length-requires-2
+by-length-requires-2 c κs = let p = c .before .before .before .before .before .pre in (p .0, p .1, p .2, empty-sound _ _ _ _ _ _ 1)
 
 pub search-spec : {M : Type 1} → statement M
 search-spec =
     tie.close
     (tie.spec
-    Inv-loop
-    μ-loop
-    loop-holds
-    extend-requires
-    (λ c. search needs)
-    returns
-    (λ c. omega arith)
-    (λ c. omega arith)
-    loop-again
     (λ c κs. search needs)
-    returns-2)
+    (λ c. search needs)
+    by-length-requires
+    (λ c. c .before .by-length .ensures)
+    (λ c. search needs)
+    by-length-requires-2
+    (λ c. c .before .by-length2 .ensures))

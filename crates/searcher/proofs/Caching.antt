@@ -1,0 +1,171 @@
+-- The cache of a search: keys, an entry that is written, and what the entries stand for.
+-- Assumes nothing.
+use Prim.Native.Nat.{ℕ, zero, suc, _+_, _-_, _*_, _<_, _≤_}
+use mathlib.Core.Path.{_≡_, refl, sym, ap, subst, _∙_}
+use mathlib.Core.Logic.{_⊎_, inl, inr}
+use mathlib.Core.Bool.{Bool, true, false}
+use mathlib.Core.List.{List, [], _∷_, _++_}
+use native.Mathlib.Decide.{decLt}
+use native.Mathlib.Omega.{arith}
+use lib.ListN.{length, getD, set, replicate, length-append, length-set, length-replicate}
+use lib.Seq.{ext-getD, getD-set-same, getD-set-other}
+use Rattle.rules.specs.declared.State.{State}
+use Rattle.rules.specs.Answers.{stateNumbers, stateFrom}
+use Rattle.rules.specs.Demands.{Shaped}
+use Rattle.rules.proofs.RoundTrips.{records-round-trip}
+use Rattle.runner.proofs.Numbers.{entries, entries-all}
+use Rattle.searcher.specs.declared.Plan.{Plan}
+use Rattle.searcher.specs.declared.Status.{Status}
+use Rattle.searcher.specs.Searching.{Run}
+use Rattle.searcher.specs.Caching.{standingOf, keyOf, numberAt, KeyAt, Found, Stored, StoredOrNot, NoneBreaks, Stands, Sound}
+use Rattle.searcher.proofs.Events.{zeros}
+
+-- ---- keys
+
+numbers-length : (s : State) → Shaped s → length (stateNumbers s) ≡ 26
+unfolding stateNumbers
+numbers-length s h =
+    let one : List ℕ = s .own ∷ [] in
+    omega (arith, length-append (s .variables ++ s .balances) one, length-append (s .variables) (s .balances), h .0, h .1)
+
+key-length : (left : ℕ) (run : Run) → Shaped (run .state) → length (keyOf left run) ≡ 28
+unfolding keyOf
+key-length left run h = omega (arith, numbers-length (run .state) h)
+
+-- the key of a run, word by word
+pub key-is : (left n : ℕ) (run : Run) (w : List ℕ) → Shaped (run .state) → n ≡ standingOf (run .status .broken) (run .status .seen)
+    → w ≡ stateNumbers (run .state) → left ∷ n ∷ entries 26 0 w ≡ keyOf left run
+unfolding keyOf
+key-is left n run w h standing numbers =
+    rw (standing, entries-all 26 w (ap length numbers ∙ numbers-length (run .state) h)) (ap (λ (l : List ℕ). left ∷ standingOf (run .status .broken) (run .status .seen) ∷ l) numbers)
+
+-- the way back from a standing
+abbrev statusOf : ℕ → Status
+statusOf zero = record { broken = false; seen = false }
+statusOf (suc zero) = record { broken = false; seen = true }
+statusOf (suc (suc zero)) = record { broken = true; seen = false }
+statusOf (suc (suc (suc n))) = record { broken = true; seen = true }
+
+status-back : (b s : Bool) → statusOf (standingOf b s) ≡ record { broken = b; seen = s }
+status-back false false = refl
+status-back false true = refl
+status-back true false = refl
+status-back true true = refl
+
+same-status : (s t : Status) → standingOf (s .broken) (s .seen) ≡ standingOf (t .broken) (t .seen) → s ≡ t
+same-status s t e = sym (status-back (s .broken) (s .seen)) ∙ ap statusOf e ∙ status-back (t .broken) (t .seen)
+
+-- the key says which run it is of, and how many rows are left
+module _ (left more : ℕ) (run other : Run) (f : Shaped (run .state)) (h : Shaped (other .state)) where
+  same-words : ((k : ℕ) → k < 28 → getD (keyOf left run) k 0 ≡ getD (keyOf more other) k 0) → keyOf left run ≡ keyOf more other
+  same-words e =
+      let n = key-length left run f in
+      let m = key-length more other h in
+      ext-getD 0 (keyOf left run) (keyOf more other) (n ∙ sym m) (λ i less. e i (omega arith))
+
+  same-run : keyOf left run ≡ keyOf more other → (left ≡ more) × (run ≡ other)
+  unfolding keyOf
+  same-run e =
+      let l : left ≡ more = cc in
+      let s : standingOf (run .status .broken) (run .status .seen) ≡ standingOf (other .status .broken) (other .status .seen) = cc in
+      let n : stateNumbers (run .state) ≡ stateNumbers (other .state) = cc in
+      let back = records-round-trip .1 in
+      let r : run .state ≡ other .state = sym (back (run .state) f) ∙ ap stateFrom n ∙ back (other .state) h in
+      let t = same-status (run .status) (other .status) s in
+      (l, λ i. record { state = r i; status = t i })
+
+-- ---- an entry is written word by word
+
+pub record Writing (before m words : List ℕ) (base n k : ℕ) : Type 0 where
+  pub full : length m ≡ length before
+  pub number : getD m base 0 ≡ n
+  pub key : (j : ℕ) → j < k → getD m (base + 1 + j) 0 ≡ getD words j 0
+  pub others : (j : ℕ) → (j < base) ⊎ (base + 29 ≤ j) → getD m j 0 ≡ getD before j 0
+
+pub writing-first : (m words : List ℕ) (base n : ℕ) → getD m base 0 ≡ n → Writing m m words base n 0
+writing-first m words base n h = record { full = refl; number = h; key = λ j less. absurd (omega arith); others = λ j o. refl }
+
+pub writing-next : (before m words : List ℕ) (base n k : ℕ) → k < 28 → base + 29 ≤ length before → Writing before m words base n k
+    → Writing before (set m (base + 1 + k) (getD words k 0)) words base n (k + 1)
+writing-next before m words base n k less room w =
+    record {
+      full = length-set m (base + 1 + k) (getD words k 0) ∙ w .full;
+      number = getD-set-other m (base + 1 + k) base (getD words k 0) 0 (λ e. omega arith) ∙ w .number;
+      key = λ j l. go j l (decLt j k);
+      others = λ j o. getD-set-other m (base + 1 + k) j (getD words k 0) 0 (out j o) ∙ w .others j o;
+    }
+  where
+    out : (j : ℕ) → (j < base) ⊎ (base + 29 ≤ j) → j ≡ base + 1 + k → ⊥
+    out j (inl a) e = omega arith
+    out j (inr a) e = omega arith
+
+    go : (j : ℕ) → j < k + 1 → Dec (j < k) → getD (set m (base + 1 + k) (getD words k 0)) (base + 1 + j) 0 ≡ getD words j 0
+    go j l (yes h) = getD-set-other m (base + 1 + k) (base + 1 + j) (getD words k 0) 0 (λ e. omega arith) ∙ w .key j h
+    go j l (no h) =
+        let same : k ≡ j = omega arith in
+        subst (λ (i : ℕ). getD (set m (base + 1 + k) (getD words k 0)) (base + 1 + i) 0 ≡ getD words i 0) same
+        (getD-set-same m (base + 1 + k) (getD words k 0) 0 (omega (arith, w .full)))
+
+pub written : (m after words : List ℕ) (i n k : ℕ) → 28 ≤ k → Writing (set m (29 * i) n) after words (29 * i) n k → Stored m after words n
+written m after words i n k all w =
+    record {
+      place = i;
+      number = w .number;
+      words = λ j h. w .key j (omega arith);
+      others = λ j o. w .others j o ∙ getD-set-other m (29 * i) j n 0 (out j o);
+      full = w .full ∙ length-set m (29 * i) n;
+    }
+  where
+    out : (j : ℕ) → (j < 29 * i) ⊎ (29 * i + 29 ≤ j) → j ≡ 29 * i → ⊥
+    out j (inl a) e = omega arith
+    out j (inr a) e = omega arith
+
+pub found-by : {cache key other : List ℕ} {n : ℕ} → key ≡ other → Found cache key n → Found cache other n
+found-by {cache} {n = n} e = subst (λ (k : List ℕ). Found cache k n) e
+
+pub stored-by : {before after key other : List ℕ} {n : ℕ} → key ≡ other → StoredOrNot before after key n → StoredOrNot before after other n
+stored-by {before} {after} {n = n} e = subst (λ (k : List ℕ). StoredOrNot before after k n) e
+
+-- ---- a cache is sound: at first, and after an entry was written; and what an entry that is found says
+
+module _ (file words nodes table calls : List ℕ) (plan : Plan) where
+  abbrev SoundCache : List ℕ → Type 0
+  SoundCache = Sound file words nodes table calls plan
+
+  abbrev Entry : List ℕ → ℕ → Type 0
+  Entry = Stands file words nodes table calls plan
+
+  abbrev None : (n left : ℕ) → Run → Type 0
+  None = NoneBreaks file words nodes table calls plan
+
+  pub empty-sound : (n : ℕ) → SoundCache (replicate n 0)
+  empty-sound n = λ i less some. absurd (some (zeros n (29 * i)))
+
+  pub found-none : {cache : List ℕ} {n : ℕ} (left : ℕ) (run : Run) → Shaped (run .state) → SoundCache cache
+      → (n ≡ 0 → ⊥) → Found cache (keyOf left run) n → None n left run
+  found-none {cache} {n} left run shaped sound some f g =
+      let s = sound (f .place) (f .within) (λ z. some (f .number ∙ z)) in
+      let words = same-words left (s .left) run (s .run) shaped (s .shaped) (λ k h. sym (f .words k h) ∙ s .key k h) in
+      let same = same-run left (s .left) run (s .run) shaped (s .shaped) words in
+      rw (f .number, same .0, same .1) (s .none g)
+
+  -- an entry whose words were left
+  kept : {before after : List ℕ} {i : ℕ} → numberAt after i ≡ numberAt before i
+      → ((k : ℕ) → k < 28 → getD after (29 * i + 1 + k) 0 ≡ getD before (29 * i + 1 + k) 0) → Entry before i → Entry after i
+  kept e f s = record { left = s .left; run = s .run; shaped = s .shaped; key = λ k h. f k h ∙ s .key k h; none = λ g. rw e (s .none g) }
+
+  pub stored-sound : {before after : List ℕ} {n : ℕ} (left : ℕ) (run : Run) → Shaped (run .state)
+      → StoredOrNot before after (keyOf left run) n → None n left run → SoundCache before → SoundCache after
+  stored-sound left run shaped (inl e) none sound = subst SoundCache (sym e) sound
+  stored-sound {before} {after} {n} left run shaped (inr w) none sound = λ j less some. go j less some (decLt j (w .place)) (decLt (w .place) j)
+    where
+      go : (j : ℕ) → 29 * j + 29 ≤ length after → (numberAt after j ≡ 0 → ⊥) → Dec (j < w .place) → Dec (w .place < j) → Entry after j
+      go j less some (yes h) d =
+          let e : numberAt after j ≡ numberAt before j = w .others (29 * j) (inl (omega arith)) in
+          kept e (λ k l. w .others (29 * j + 1 + k) (inl (omega arith))) (sound j (omega (arith, w .full)) (λ z. some (e ∙ z)))
+      go j less some (no h) (yes d) =
+          let e : numberAt after j ≡ numberAt before j = w .others (29 * j) (inr (omega arith)) in
+          kept e (λ k l. w .others (29 * j + 1 + k) (inr (omega arith))) (sound j (omega (arith, w .full)) (λ z. some (e ∙ z)))
+      go j less some (no h) (no d) =
+          let same : w .place ≡ j = omega arith in
+          subst (Entry after) same (record { left = left; run = run; shaped = shaped; key = w .words; none = λ g. rw (w .number) (none g) })
