@@ -5,19 +5,26 @@ use crate::Status;
 use rules::State;
 use runner::layout::state_words;
 ghost use mathlib.Core.Path.{_≡_};
-ghost use Prim.Native.Nat.{_<_};
+ghost use Prim.Native.Nat.{_+_, _*_, _<_, _≤_};
+ghost use lib.ListN.{length};
 ghost use Rattle.searcher.specs.Searching.{runOf};
-ghost use Rattle.searcher.specs.Caching.{standingOf, keyOf, Keyed, Found, StoredOrNot};
+ghost use Rattle.searcher.specs.Caching.{standingOf, keyOf, Keyed, Found, Stored, StoredOrNot};
 
-// A key's words: the rows left, how the rule stands, and the 26 of the state record. Where a record has more, these four lengths and
-// the list that `key_of` makes are what changes here.
+// A key's words: the rows left, how the rule stands, and the 26 of the state record. Where a record has more, these lengths and the
+// list that `key_of` makes are what changes here.
 const KEY: usize = 28;
 
 const ENTRY: usize = 29;
 
-const ENTRIES: usize = 256;
+const PAIRS: usize = 128;
 
 pub const WORDS: usize = 7424;
+
+// Where the entry for a position is or would be: one of a pair. And its number of lists, 0 where it is not there.
+pub struct Slot {
+    pub pair: usize,
+    pub number: u32,
+}
 
 fn standing(status: Status) -> u32
     ensures { λ r. ⌜ r ≡ standingOf (status .broken) (status .seen) ⌝ }
@@ -86,9 +93,9 @@ fn mixed(a: u32, b: u32, c: u32, d: u32) -> u64 {
     (folded(a, b) as u64) * 0x6c07_8965 + (folded(c, d) as u64) * 0x5bd1_e995
 }
 
-// The place of a key's entry. Any place would do, so the contract says no more; few keys of a search share one.
-fn place_of(key: &[u32; KEY]) -> usize
-    ensures { λ r. ⌜ r < 256 ⌝ }
+// The pair of entries for a key. Any pair would do, so the contract says no more; few keys of a search share one.
+fn pair_of(key: &[u32; KEY]) -> usize
+    ensures { λ r. ⌜ r < 128 ⌝ }
 {
     let mut h: u64 = 0;
     let mut i = 0;
@@ -98,15 +105,15 @@ fn place_of(key: &[u32; KEY]) -> usize
         i += 1;
     }
     let x = (h ^ (h >> 32)) % 0x1_0000_0000;
-    (x * 0x9e37_79b1 / 0x100_0000) as usize % ENTRIES
+    (x * 0x9e37_79b1 / 0x100_0000) as usize % PAIRS
 }
 
-// The number of the entry at a place, where it is there and has this key, and else 0.
-fn number_at(cache: &[u32], place: usize, key: &[u32; KEY]) -> u32
-    requires { ⌜ place < 256 ⌝ }
+// The number of the i-th entry, where it is there and has this key, and else 0.
+fn number_at(cache: &[u32], i: usize, key: &[u32; KEY]) -> u32
+    requires { ⌜ i < 256 ⌝ }
     ensures { λ r. ⌜ ((r ≡ 0 → ⊥) → Found (now (cache .entry)) (now (key .entry)) r) ⌝ }
 {
-    let at = ENTRY * place;
+    let at = ENTRY * i;
     if cache.len() < at + ENTRY {
         return 0;
     }
@@ -120,15 +127,36 @@ fn number_at(cache: &[u32], place: usize, key: &[u32; KEY]) -> u32
     cache[at]
 }
 
-// Writes an entry at a place, over what was there.
-fn write_at(cache: &mut [u32], place: usize, key: &[u32; KEY], number: u32)
-    requires { ⌜ place < 256 ⌝ }
-    ensures { λ _. ⌜ StoredOrNot (now (cache .entry)) (now (cache .exit)) (now (key .entry)) number ⌝ }
+// The number of the entry with this key in a pair, and else 0.
+fn number_in(cache: &[u32], pair: usize, key: &[u32; KEY]) -> u32
+    requires { ⌜ pair < 128 ⌝ }
+    ensures { λ r. ⌜ ((r ≡ 0 → ⊥) → Found (now (cache .entry)) (now (key .entry)) r) ⌝ }
 {
-    let at = ENTRY * place;
-    if cache.len() < at + ENTRY {
-        return;
+    let number = number_at(cache, 2 * pair, key);
+    if number != 0 {
+        return number;
     }
+    number_at(cache, 2 * pair + 1, key)
+}
+
+// The entry of a pair to write over: that for fewer lists.
+fn victim(cache: &[u32], pair: usize) -> usize
+    requires { ⌜ (pair ≤ 128) × (58 * pair + 58 ≤ length (now cache)) ⌝ }
+    ensures { λ r. ⌜ 29 * r + 29 ≤ length (now (cache .entry)) ⌝ }
+{
+    let first = 2 * pair;
+    if cache[ENTRY * (first + 1)] < cache[ENTRY * first] {
+        return first + 1;
+    }
+    first
+}
+
+// Writes the i-th entry, over what was there.
+fn write_at(cache: &mut [u32], i: usize, key: &[u32; KEY], number: u32)
+    requires { ⌜ 29 * i + 29 ≤ length (now cache) ⌝ }
+    ensures { λ _. ⌜ Stored (now (cache .entry)) (now (cache .exit)) (now (key .entry)) number ⌝ }
+{
+    let at = ENTRY * i;
     cache[at] = number;
     let mut k = 0;
     while k < KEY {
@@ -147,7 +175,8 @@ pub fn is_kept(count: u8, left: usize) -> bool {
     }
 }
 
-// The number of lists of so many rows from a position on, where all were tried and none breaks the rule, and else 0.
+// The slot for the lists of so many rows from a position on. Where it has a number, all of them were tried and none breaks the rule.
+// A pair that is not there is for lists that are not kept.
 pub fn lookup(
     cache: &[u32],
     position: Position,
@@ -155,33 +184,40 @@ pub fn lookup(
     balances: &[u32; 8],
     count: u8,
     left: usize,
-) -> u32
+) -> Slot
     requires { ⌜ Keyed left (runOf position (now variables) (now balances)) ⌝ }
-    ensures { λ r. ⌜ ((r ≡ 0 → ⊥) → Found (now (cache .entry)) (keyOf left (runOf position (now (variables .entry)) (now (balances .entry)))) r) ⌝ }
+    ensures { λ r. ⌜ (r .pair ≤ 128) × ((r .number ≡ 0 → ⊥) →
+        Found (now (cache .entry)) (keyOf left (runOf position (now (variables .entry)) (now (balances .entry)))) (r .number)) ⌝ }
 {
     if !is_kept(count, left) {
-        return 0;
+        return Slot {
+            pair: PAIRS,
+            number: 0,
+        };
     }
     let key = key_of(position, variables, balances, left);
-    number_at(cache, place_of(&key), &key)
+    let pair = pair_of(&key);
+    let number = number_in(cache, pair, &key);
+    Slot { pair, number }
 }
 
-// Keeps that number.
+// Writes the number of those lists into the pair, over the smaller number there.
 pub fn store(
     cache: &mut [u32],
+    pair: usize,
     position: Position,
     variables: &[u32; 16],
     balances: &[u32; 8],
-    count: u8,
     left: usize,
     number: u32,
 )
-    requires { ⌜ Keyed left (runOf position (now variables) (now balances)) ⌝ }
+    requires { ⌜ (pair ≤ 128) × Keyed left (runOf position (now variables) (now balances)) ⌝ }
     ensures { λ _. ⌜ StoredOrNot (now (cache .entry)) (now (cache .exit)) (keyOf left (runOf position (now (variables .entry)) (now (balances .entry)))) number ⌝ }
 {
-    if !is_kept(count, left) {
+    if cache.len() < ENTRY * (2 * pair + 2) {
         return;
     }
     let key = key_of(position, variables, balances, left);
-    write_at(cache, place_of(&key), &key, number);
+    let i = victim(cache, pair);
+    write_at(cache, i, &key, number);
 }

@@ -172,9 +172,9 @@ fn extend(
         let status = position.status;
         return ended(status.broken, at, tried, plan.bound);
     }
-    let number = lookup(cache, position, variables, balances, plan.count, left);
-    if number != 0 {
-        return all_ended(number, tried, plan.bound);
+    let slot = lookup(cache, position, variables, balances, plan.count, left);
+    if slot.number != 0 {
+        return all_ended(slot.number, tried, plan.bound);
     }
     let f = extend_each(
         file,
@@ -197,10 +197,10 @@ fn extend(
     };
     store(
         cache,
+        slot.pair,
         position,
         variables,
         balances,
-        plan.count,
         left,
         n - tried,
     );

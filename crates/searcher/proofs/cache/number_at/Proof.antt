@@ -8,10 +8,10 @@ use Rattle.searcher.proofs.cache.number_at.Statement.{statement}
 use Rattle.searcher.proofs.cache.number_at.Tie as tie
 
 abbrev Inv-loop : tie.InvT-loop
-Inv-loop cache place key at k₀ k = (k ≤ 28) × ((j : ℕ) → j < k → getD cache (at + 1 + j) 0 ≡ getD key j 0)
+Inv-loop cache i key at k₀ k = (k ≤ 28) × ((j : ℕ) → j < k → getD cache (at + 1 + j) 0 ≡ getD key j 0)
 
 abbrev μ-loop : tie.MeasureT-loop
-μ-loop cache place key at k₀ k = 28 - k
+μ-loop cache i key at k₀ k = 28 - k
 
 loop-again : tie.Need-loop-again Inv-loop μ-loop
 loop-again c = (omega arith, below-more _ _ (c .before .before .before .before .loop .inv .1) (c .if2 .left))
@@ -20,7 +20,7 @@ returns-3 : tie.Need-returns-3 Inv-loop μ-loop
 returns-3 c = λ some.
     let h = c .before .before in
     record {
-      place = h .before .before .args .place;
+      place = h .before .before .args .i;
       within = omega arith;
       number = refl;
       words = λ k less. h .loop .inv .1 k (omega arith);

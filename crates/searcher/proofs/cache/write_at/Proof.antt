@@ -1,7 +1,6 @@
 -- The number, and then the key's words one after another.
 use Prim.Native.Nat.{_*_, _-_, _≤_}
-use mathlib.Core.Path.{refl, _∙_}
-use mathlib.Core.Logic.{inl, inr}
+use mathlib.Core.Path.{_∙_}
 use native.Mathlib.Omega.{arith}
 use lib.ListN.{set, length-set}
 use lib.Seq.{getD-set-same}
@@ -11,43 +10,43 @@ use Rattle.searcher.proofs.cache.write_at.Statement.{statement}
 use Rattle.searcher.proofs.cache.write_at.Tie as tie
 
 abbrev Inv-loop : tie.InvT-loop
-Inv-loop cache₀ place key number at k₀ cache k = (k ≤ 28) × Writing cache₀ cache key at number k
+Inv-loop cache₀ i key number at k₀ cache k = (k ≤ 28) × Writing cache₀ cache key at number k
 
 abbrev μ-loop : tie.MeasureT-loop
-μ-loop cache₀ place key number at k₀ cache k = 28 - k
+μ-loop cache₀ i key number at k₀ cache k = 28 - k
 
 loop-holds : tie.Need-loop-holds Inv-loop μ-loop
 loop-holds c =
-    let a = c .before .args in
-    (omega arith, writing-first _ _ _ _ (getD-set-same (now (a .cache)) (29 * a .place) (a .number) 0 (omega arith)))
+    let a = c .args in
+    (omega arith, writing-first _ _ _ _ (getD-set-same (now (a .cache)) (29 * a .i) (a .number) 0 (omega (arith, c .pre))))
 
 slice-write-cache-2 : tie.Need-slice-write-cache-2 Inv-loop μ-loop
 slice-write-cache-2 c =
     let h = c .before .before in
-    let a = h .before .before .args in
-    omega (arith, h .loop .inv .1 .full, length-set (now (a .cache)) (29 * a .place) (a .number))
+    let a = h .before .args in
+    omega (arith, h .loop .inv .1 .full, length-set (now (a .cache)) (29 * a .i) (a .number), h .before .pre)
 
 loop-again : tie.Need-loop-again Inv-loop μ-loop
 loop-again c =
     let h = c .before .before in
-    let s = h .before .before in
+    let s = h .before in
     let a = s .args in (
       omega arith,
-      writing-next (set (now (a .cache)) (29 * a .place) (a .number)) (h .loop .cache) (now (a .key)) (29 * a .place) (a .number) (h .loop .k)
-          (omega (arith, c .before .loop-test .taken)) (omega (arith, length-set (now (a .cache)) (29 * a .place) (a .number))) (h .loop .inv .1),
+      writing-next (set (now (a .cache)) (29 * a .i) (a .number)) (h .loop .cache) (now (a .key)) (29 * a .i) (a .number) (h .loop .k)
+          (omega (arith, c .before .loop-test .taken)) (omega (arith, length-set (now (a .cache)) (29 * a .i) (a .number), s .pre)) (h .loop .inv .1),
     )
 
 same-length : tie.Need-same-length Inv-loop μ-loop
 same-length c =
     let h = c .before in
-    let a = h .before .before .args in
-    h .loop .inv .1 .full ∙ length-set (now (a .cache)) (29 * a .place) (a .number)
+    let a = h .before .args in
+    h .loop .inv .1 .full ∙ length-set (now (a .cache)) (29 * a .i) (a .number)
 
-returns-2 : tie.Need-returns-2 Inv-loop μ-loop
-returns-2 c =
+returns : tie.Need-returns Inv-loop μ-loop
+returns c =
     let h = c .before in
-    let a = h .before .before .args in
-    inr (written (now (a .cache)) (h .loop .cache) (now (a .key)) (a .place) (a .number) (h .loop .k) (omega (arith, c .loop-test .left)) (h .loop .inv .1))
+    let a = h .before .args in
+    written (now (a .cache)) (h .loop .cache) (now (a .key)) (a .i) (a .number) (h .loop .k) (omega (arith, c .loop-test .left)) (h .loop .inv .1)
 
 pub write-at-spec : {M : Type 1} → statement M
 write-at-spec =
@@ -55,11 +54,9 @@ write-at-spec =
     (tie.spec
     Inv-loop
     μ-loop
+    (λ c. omega (arith, c .pre))
     (λ c. omega arith)
-    (λ c. omega arith)
-    (λ c. inl refl)
-    (λ c. omega arith)
-    (λ c. omega arith)
+    (λ c. omega (arith, c .pre))
     loop-holds
     (λ c. omega arith)
     (λ c. omega arith)
@@ -71,4 +68,4 @@ write-at-spec =
     (λ c. omega arith)
     loop-again
     same-length
-    returns-2)
+    returns)

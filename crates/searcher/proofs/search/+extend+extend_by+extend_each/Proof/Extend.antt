@@ -66,23 +66,26 @@ module _ (t : ℕ) where
 
   returns-2 : lts.Need-returns-2 (calls t) (extend-at t) own.Post
   returns-2 c =
-      let n = c .before .before in
+      let n = c .before .before .before in
       let s = start (more n) in
       let a = s .args in (
         s .pre .1 .3,
         λ g. c .all-ended .ensures (breaksIn g (run s)) (listsOf (a .plan .count) (a .left)) (replicate (a .at) 0)
-            (found-none _ _ _ _ _ _ (a .left) (run s) (keyed s .1) (s .pre .1 .3) (c .before .if2 .taken) (n .lookup .ensures (c .before .if2 .taken)) g),
+            (found-none _ _ _ _ _ _ (a .left) (run s) (keyed s .1) (s .pre .1 .3) (c .before .if2 .taken) (n .lookup .ensures .1 (c .before .if2 .taken)) g),
       )
 
   extend-each-requires : lts.Need-extend-each-requires (calls t) (extend-at t) own.Post
   extend-each-requires c κs =
-      let i = more (c .before .before) in
+      let i = more (c .before .before .before) in
       let s = start i in
       let p = s .pre .1 in
       (omega (arith, s .pre .0, i .if1 .left), (p .0, p .1, omega (arith, i .if1 .left), p .2, p .3))
 
+  abbrev found : lts.After-extend-each (calls t) (extend-at t) own.Post → lts.After-lookup (calls t) (extend-at t) own.Post
+  found e = e .before .before .before .before
+
   abbrev before : lts.After-extend-each (calls t) (extend-at t) own.Post → Start
-  before e = start (more (e .before .before .before))
+  before e = start (more (found e))
 
   -- what was tried: the lists that were counted since, and none of them breaks the rule
   tried : (v : lts.After-verdict (calls t) (extend-at t) own.Post)
@@ -102,7 +105,7 @@ module _ (t : ℕ) where
   sub-store c = let v = c .before .before in omega (arith, tried v (before (v .before .before .before .before) .pre .1 .0) .0)
 
   store-requires : lts.Need-store-requires (calls t) (extend-at t) own.Post
-  store-requires c κs = keyed (before (c .before .before .before .before .before .before))
+  store-requires c κs = let e = c .before .before .before .before .before .before in (found e .lookup .ensures .0, keyed (before e))
 
   returns-4 : lts.Need-returns-4 (calls t) (extend-at t) own.Post
   returns-4 c =

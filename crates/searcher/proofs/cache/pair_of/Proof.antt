@@ -2,8 +2,8 @@
 use Prim.Native.Nat.{_-_, _≤_}
 use native.Mathlib.Omega.{arith}
 use borrow.Author.Needs.{needs}
-use Rattle.searcher.proofs.cache.place_of.Statement.{statement}
-use Rattle.searcher.proofs.cache.place_of.Tie as tie
+use Rattle.searcher.proofs.cache.pair_of.Statement.{statement}
+use Rattle.searcher.proofs.cache.pair_of.Tie as tie
 
 abbrev Inv-loop : tie.InvT-loop
 Inv-loop key h₀ i₀ h i = i ≤ 7
@@ -11,8 +11,8 @@ Inv-loop key h₀ i₀ h i = i ≤ 7
 abbrev μ-loop : tie.MeasureT-loop
 μ-loop key h₀ i₀ h i = 7 - i
 
-pub place-of-spec : {M : Type 1} → statement M
-place-of-spec =
+pub pair-of-spec : {M : Type 1} → statement M
+pair-of-spec =
     tie.close
     (tie.spec
     Inv-loop
