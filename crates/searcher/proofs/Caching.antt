@@ -7,6 +7,7 @@ use mathlib.Core.Bool.{Bool, true, false}
 use mathlib.Core.List.{List, [], _∷_, _++_}
 use native.Mathlib.Decide.{decLt}
 use native.Mathlib.Omega.{arith}
+use borrow.Author.Count.{below-more}
 use lib.ListN.{length, getD, set, replicate, length-append, length-set, length-replicate}
 use lib.Seq.{ext-getD, getD-set-same, getD-set-other}
 use Rattle.rules.specs.declared.State.{State}
@@ -17,7 +18,7 @@ use Rattle.runner.proofs.Numbers.{entries, entries-all}
 use Rattle.searcher.specs.declared.Plan.{Plan}
 use Rattle.searcher.specs.declared.Status.{Status}
 use Rattle.searcher.specs.Searching.{Run}
-use Rattle.searcher.specs.Caching.{standingOf, keyOf, numberAt, KeyAt, Found, Stored, StoredOrNot, NoneBreaks, Stands, Sound}
+use Rattle.searcher.specs.Caching.{keyWords, entryWords, standingOf, keyOf, numberAt, KeyAt, Found, Stored, StoredOrNot, NoneBreaks, Stands, Sound}
 use Rattle.searcher.proofs.Events.{zeros}
 
 -- ---- keys
@@ -28,7 +29,7 @@ numbers-length s h =
     let one : List ℕ = s .own ∷ [] in
     omega (arith, length-append (s .variables ++ s .balances) one, length-append (s .variables) (s .balances), h .0, h .1)
 
-key-length : (left : ℕ) (run : Run) → Shaped (run .state) → length (keyOf left run) ≡ 28
+key-length : (left : ℕ) (run : Run) → Shaped (run .state) → length (keyOf left run) ≡ keyWords
 unfolding keyOf
 key-length left run h = omega (arith, numbers-length (run .state) h)
 
@@ -57,7 +58,7 @@ same-status s t e = sym (status-back (s .broken) (s .seen)) ∙ ap statusOf e �
 
 -- the key says which run it is of, and how many rows are left
 module _ (left more : ℕ) (run other : Run) (f : Shaped (run .state)) (h : Shaped (other .state)) where
-  same-words : ((k : ℕ) → k < 28 → getD (keyOf left run) k 0 ≡ getD (keyOf more other) k 0) → keyOf left run ≡ keyOf more other
+  same-words : ((k : ℕ) → k < keyWords → getD (keyOf left run) k 0 ≡ getD (keyOf more other) k 0) → keyOf left run ≡ keyOf more other
   same-words e =
       let n = key-length left run f in
       let m = key-length more other h in
@@ -74,18 +75,24 @@ module _ (left more : ℕ) (run other : Run) (f : Shaped (run .state)) (h : Shap
       let t = same-status (run .status) (other .status) s in
       (l, λ i. record { state = r i; status = t i })
 
--- ---- an entry is written word by word
+-- ---- an entry is compared and written word by word
+
+-- one word more: it differed, or it is the key's and nothing changed
+pub compared : {T E : Type 0} (P : ℕ → Type 0) (k : ℕ) (same after : Bool) → (same ≡ true → (j : ℕ) → j < k → P j)
+    → (T × (after ≡ false)) ⊎ (E × (after ≡ same)) → (E → P k) → after ≡ true → (j : ℕ) → j < k + 1 → P j
+compared P k same after before (inl (t, e)) here s = absurd (let z : _≡_ {A = Bool} false true = sym e ∙ s in let w : _≡_ {A = ℕ} 0 1 = cc in omega arith)
+compared P k same after before (inr (x, e)) here s = below-more _ _ (before (sym e ∙ s)) (here x)
 
 pub record Writing (before m words : List ℕ) (base n k : ℕ) : Type 0 where
   pub full : length m ≡ length before
   pub number : getD m base 0 ≡ n
   pub key : (j : ℕ) → j < k → getD m (base + 1 + j) 0 ≡ getD words j 0
-  pub others : (j : ℕ) → (j < base) ⊎ (base + 29 ≤ j) → getD m j 0 ≡ getD before j 0
+  pub others : (j : ℕ) → (j < base) ⊎ (base + entryWords ≤ j) → getD m j 0 ≡ getD before j 0
 
 pub writing-first : (m words : List ℕ) (base n : ℕ) → getD m base 0 ≡ n → Writing m m words base n 0
 writing-first m words base n h = record { full = refl; number = h; key = λ j less. absurd (omega arith); others = λ j o. refl }
 
-pub writing-next : (before m words : List ℕ) (base n k : ℕ) → k < 28 → base + 29 ≤ length before → Writing before m words base n k
+pub writing-next : (before m words : List ℕ) (base n k : ℕ) → k < keyWords → base + entryWords ≤ length before → Writing before m words base n k
     → Writing before (set m (base + 1 + k) (getD words k 0)) words base n (k + 1)
 writing-next before m words base n k less room w =
     record {
@@ -95,7 +102,7 @@ writing-next before m words base n k less room w =
       others = λ j o. getD-set-other m (base + 1 + k) j (getD words k 0) 0 (out j o) ∙ w .others j o;
     }
   where
-    out : (j : ℕ) → (j < base) ⊎ (base + 29 ≤ j) → j ≡ base + 1 + k → ⊥
+    out : (j : ℕ) → (j < base) ⊎ (base + entryWords ≤ j) → j ≡ base + 1 + k → ⊥
     out j (inl a) e = omega arith
     out j (inr a) e = omega arith
 
@@ -106,17 +113,17 @@ writing-next before m words base n k less room w =
         subst (λ (i : ℕ). getD (set m (base + 1 + k) (getD words k 0)) (base + 1 + i) 0 ≡ getD words i 0) same
         (getD-set-same m (base + 1 + k) (getD words k 0) 0 (omega (arith, w .full)))
 
-pub written : (m after words : List ℕ) (i n k : ℕ) → 28 ≤ k → Writing (set m (29 * i) n) after words (29 * i) n k → Stored m after words n
+pub written : (m after words : List ℕ) (i n k : ℕ) → keyWords ≤ k → Writing (set m (entryWords * i) n) after words (entryWords * i) n k → Stored m after words n
 written m after words i n k all w =
     record {
       place = i;
       number = w .number;
       words = λ j h. w .key j (omega arith);
-      others = λ j o. w .others j o ∙ getD-set-other m (29 * i) j n 0 (out j o);
-      full = w .full ∙ length-set m (29 * i) n;
+      others = λ j o. w .others j o ∙ getD-set-other m (entryWords * i) j n 0 (out j o);
+      full = w .full ∙ length-set m (entryWords * i) n;
     }
   where
-    out : (j : ℕ) → (j < 29 * i) ⊎ (29 * i + 29 ≤ j) → j ≡ 29 * i → ⊥
+    out : (j : ℕ) → (j < entryWords * i) ⊎ (entryWords * i + entryWords ≤ j) → j ≡ entryWords * i → ⊥
     out j (inl a) e = omega arith
     out j (inr a) e = omega arith
 
@@ -139,7 +146,7 @@ module _ (file words nodes table calls : List ℕ) (plan : Plan) where
   None = NoneBreaks file words nodes table calls plan
 
   pub empty-sound : (n : ℕ) → SoundCache (replicate n 0)
-  empty-sound n = λ i less some. absurd (some (zeros n (29 * i)))
+  empty-sound n = λ i less some. absurd (some (zeros n (entryWords * i)))
 
   pub found-none : {cache : List ℕ} {n : ℕ} (left : ℕ) (run : Run) → Shaped (run .state) → SoundCache cache
       → (n ≡ 0 → ⊥) → Found cache (keyOf left run) n → None n left run
@@ -151,7 +158,7 @@ module _ (file words nodes table calls : List ℕ) (plan : Plan) where
 
   -- an entry whose words were left
   kept : {before after : List ℕ} {i : ℕ} → numberAt after i ≡ numberAt before i
-      → ((k : ℕ) → k < 28 → getD after (29 * i + 1 + k) 0 ≡ getD before (29 * i + 1 + k) 0) → Entry before i → Entry after i
+      → ((k : ℕ) → k < keyWords → getD after (entryWords * i + 1 + k) 0 ≡ getD before (entryWords * i + 1 + k) 0) → Entry before i → Entry after i
   kept e f s = record { left = s .left; run = s .run; shaped = s .shaped; key = λ k h. f k h ∙ s .key k h; none = λ g. rw e (s .none g) }
 
   pub stored-sound : {before after : List ℕ} {n : ℕ} (left : ℕ) (run : Run) → Shaped (run .state)
@@ -159,13 +166,13 @@ module _ (file words nodes table calls : List ℕ) (plan : Plan) where
   stored-sound left run shaped (inl e) none sound = subst SoundCache (sym e) sound
   stored-sound {before} {after} {n} left run shaped (inr w) none sound = λ j less some. go j less some (decLt j (w .place)) (decLt (w .place) j)
     where
-      go : (j : ℕ) → 29 * j + 29 ≤ length after → (numberAt after j ≡ 0 → ⊥) → Dec (j < w .place) → Dec (w .place < j) → Entry after j
+      go : (j : ℕ) → entryWords * j + entryWords ≤ length after → (numberAt after j ≡ 0 → ⊥) → Dec (j < w .place) → Dec (w .place < j) → Entry after j
       go j less some (yes h) d =
-          let e : numberAt after j ≡ numberAt before j = w .others (29 * j) (inl (omega arith)) in
-          kept e (λ k l. w .others (29 * j + 1 + k) (inl (omega arith))) (sound j (omega (arith, w .full)) (λ z. some (e ∙ z)))
+          let e : numberAt after j ≡ numberAt before j = w .others (entryWords * j) (inl (omega arith)) in
+          kept e (λ k l. w .others (entryWords * j + 1 + k) (inl (omega arith))) (sound j (omega (arith, w .full)) (λ z. some (e ∙ z)))
       go j less some (no h) (yes d) =
-          let e : numberAt after j ≡ numberAt before j = w .others (29 * j) (inr (omega arith)) in
-          kept e (λ k l. w .others (29 * j + 1 + k) (inr (omega arith))) (sound j (omega (arith, w .full)) (λ z. some (e ∙ z)))
+          let e : numberAt after j ≡ numberAt before j = w .others (entryWords * j) (inr (omega arith)) in
+          kept e (λ k l. w .others (entryWords * j + 1 + k) (inr (omega arith))) (sound j (omega (arith, w .full)) (λ z. some (e ∙ z)))
       go j less some (no h) (no d) =
           let same : w .place ≡ j = omega arith in
           subst (Entry after) same (record { left = left; run = run; shaped = shaped; key = w .words; none = λ g. rw (w .number) (none g) })

@@ -12,6 +12,16 @@ use Rattle.rules.specs.Lists.{listsOf}
 use Rattle.searcher.specs.declared.Plan.{Plan}
 use Rattle.searcher.specs.Searching.{Run, Planned, breaksIn}
 
+-- the words of a key and of an entry, and the pairs of entries
+abbrev pub keyWords : ℕ
+keyWords = 28
+
+abbrev pub entryWords : ℕ
+entryWords = 29
+
+abbrev pub pairs : ℕ
+pairs = 128
+
 -- how a rule stands, as a number
 abbrev pub standingOf : (broken seen : Bool) → ℕ
 standingOf false false = 0
@@ -19,7 +29,7 @@ standingOf false true = 1
 standingOf true false = 2
 standingOf true true = 3
 
--- a key: the rows left, how the rule stands, and the numbers of the state record; and what makes it 28 words
+-- a key: the rows left, how the rule stands, and the numbers of the state record; and what makes it so many words
 unfoldable pub keyOf : (left : ℕ) → Run → List ℕ
 keyOf left run = left ∷ standingOf (run .status .broken) (run .status .seen) ∷ stateNumbers (run .state)
 
@@ -28,15 +38,15 @@ Keyed left run = (left ≤ 8) × Shaped (run .state)
 
 -- the i-th entry: a number of lists, and then a key
 abbrev pub numberAt : (cache : List ℕ) (i : ℕ) → ℕ
-numberAt cache i = getD cache (29 * i) 0
+numberAt cache i = getD cache (entryWords * i) 0
 
 abbrev pub KeyAt : (cache : List ℕ) (i : ℕ) (key : List ℕ) → Type 0
-KeyAt cache i key = (k : ℕ) → k < 28 → getD cache (29 * i + 1 + k) 0 ≡ getD key k 0
+KeyAt cache i key = (k : ℕ) → k < keyWords → getD cache (entryWords * i + 1 + k) 0 ≡ getD key k 0
 
 -- an entry has this key and this number
 pub record Found (cache key : List ℕ) (n : ℕ) : Type 0 where
   pub place : ℕ
-  pub within : 29 * place + 29 ≤ length cache
+  pub within : entryWords * place + entryWords ≤ length cache
   pub number : n ≡ numberAt cache place
   pub words : KeyAt cache place key
 
@@ -45,7 +55,7 @@ pub record Stored (before after key : List ℕ) (n : ℕ) : Type 0 where
   pub place : ℕ
   pub number : numberAt after place ≡ n
   pub words : KeyAt after place key
-  pub others : (m : ℕ) → (m < 29 * place) ⊎ (29 * place + 29 ≤ m) → getD after m 0 ≡ getD before m 0
+  pub others : (m : ℕ) → (m < entryWords * place) ⊎ (entryWords * place + entryWords ≤ m) → getD after m 0 ≡ getD before m 0
   pub full : length after ≡ length before
 
 -- or nothing was
@@ -67,4 +77,4 @@ module _ (file words nodes entries calls : List ℕ) (plan : Plan) where
 
   -- every entry that is not empty does so
   abbrev pub Sound : List ℕ → Type 0
-  Sound cache = (i : ℕ) → 29 * i + 29 ≤ length cache → (numberAt cache i ≡ 0 → ⊥) → Stands cache i
+  Sound cache = (i : ℕ) → entryWords * i + entryWords ≤ length cache → (numberAt cache i ≡ 0 → ⊥) → Stands cache i

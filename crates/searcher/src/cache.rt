@@ -5,20 +5,21 @@ use crate::Status;
 use rules::State;
 use runner::layout::state_words;
 ghost use mathlib.Core.Path.{_≡_};
+ghost use mathlib.Core.Bool.{true};
 ghost use Prim.Native.Nat.{_+_, _*_, _<_, _≤_};
 ghost use lib.ListN.{length};
 ghost use Rattle.searcher.specs.Searching.{runOf};
-ghost use Rattle.searcher.specs.Caching.{standingOf, keyOf, Keyed, Found, Stored, StoredOrNot};
+ghost use Rattle.searcher.specs.Caching.{entryWords, pairs, standingOf, keyOf, Keyed, KeyAt, Found, Stored, StoredOrNot};
 
-// A key's words: the rows left, how the rule stands, and the 26 of the state record. Where a record has more, these lengths and the
-// list that `key_of` makes are what changes here.
+// The words of a key: the rows left, how the rule stands, and the 26 of the state record. Where records have more words, this number
+// and the list that `key_of` makes are what changes here.
 const KEY: usize = 28;
 
-const ENTRY: usize = 29;
+const ENTRY: usize = KEY + 1;
 
 const PAIRS: usize = 128;
 
-pub const WORDS: usize = 7424;
+pub const WORDS: usize = 2 * PAIRS * ENTRY;
 
 // Where the entry for a position is or would be: one of a pair. And its number of lists, 0 where it is not there.
 pub struct Slot {
@@ -46,6 +47,7 @@ fn key_of(position: Position, variables: &[u32; 16], balances: &[u32; 8], left: 
     requires { ⌜ Keyed left (runOf position (now variables) (now balances)) ⌝ }
     ensures { λ r. ⌜ r ≡ keyOf left (runOf position (now (variables .entry)) (now (balances .entry))) ⌝ }
 {
+    let rows = left as u32;
     let status = standing(position.status);
     let w = state_words(State {
         state: position.state,
@@ -54,7 +56,7 @@ fn key_of(position: Position, variables: &[u32; 16], balances: &[u32; 8], left: 
         own: position.own,
     });
     [
-        left as u32,
+        rows,
         status,
         w[0],
         w[1],
@@ -95,7 +97,7 @@ fn mixed(a: u32, b: u32, c: u32, d: u32) -> u64 {
 
 // The pair of entries for a key. Any pair would do, so the contract says no more; few keys of a search share one.
 fn pair_of(key: &[u32; KEY]) -> usize
-    ensures { λ r. ⌜ r < 128 ⌝ }
+    ensures { λ r. ⌜ r < pairs ⌝ }
 {
     let mut h: u64 = 0;
     let mut i = 0;
@@ -108,41 +110,46 @@ fn pair_of(key: &[u32; KEY]) -> usize
     (x * 0x9e37_79b1 / 0x100_0000) as usize % PAIRS
 }
 
-// The number of the i-th entry, where it is there and has this key, and else 0.
-fn number_at(cache: &[u32], i: usize, key: &[u32; KEY]) -> u32
-    requires { ⌜ i < 256 ⌝ }
-    ensures { λ r. ⌜ ((r ≡ 0 → ⊥) → Found (now (cache .entry)) (now (key .entry)) r) ⌝ }
+// Whether the i-th entry has this key. All its words are compared: going on costs less than a branch that cannot be foretold.
+fn has_key(cache: &[u32], i: usize, key: &[u32; KEY]) -> bool
+    requires { ⌜ entryWords * i + entryWords ≤ length (now cache) ⌝ }
+    ensures { λ r. ⌜ (r ≡ true → KeyAt (now (cache .entry)) i (now (key .entry))) ⌝ }
 {
-    let at = ENTRY * i;
-    if cache.len() < at + ENTRY {
-        return 0;
-    }
+    let at = ENTRY * i + 1;
+    let mut same = true;
     let mut k = 0;
     while k < KEY {
-        if cache[at + 1 + k] != key[k] {
-            return 0;
+        if cache[at + k] != key[k] {
+            same = false;
         }
         k += 1;
     }
-    cache[at]
+    same
 }
 
-// The number of the entry with this key in a pair, and else 0.
+// The number of the entry with this key in a pair, where the pair is there and has it, and else 0.
 fn number_in(cache: &[u32], pair: usize, key: &[u32; KEY]) -> u32
-    requires { ⌜ pair < 128 ⌝ }
+    requires { ⌜ pair < pairs ⌝ }
     ensures { λ r. ⌜ ((r ≡ 0 → ⊥) → Found (now (cache .entry)) (now (key .entry)) r) ⌝ }
 {
-    let number = number_at(cache, 2 * pair, key);
-    if number != 0 {
-        return number;
+    let end = 2 * pair + 2;
+    if cache.len() < ENTRY * end {
+        return 0;
     }
-    number_at(cache, 2 * pair + 1, key)
+    let mut i = 2 * pair;
+    while i < end {
+        if has_key(cache, i, key) {
+            return cache[ENTRY * i];
+        }
+        i += 1;
+    }
+    0
 }
 
 // The entry of a pair to write over: that for fewer lists.
 fn victim(cache: &[u32], pair: usize) -> usize
-    requires { ⌜ (pair ≤ 128) × (58 * pair + 58 ≤ length (now cache)) ⌝ }
-    ensures { λ r. ⌜ 29 * r + 29 ≤ length (now (cache .entry)) ⌝ }
+    requires { ⌜ (pair ≤ pairs) × (entryWords * (2 * pair + 2) ≤ length (now cache)) ⌝ }
+    ensures { λ r. ⌜ entryWords * r + entryWords ≤ length (now (cache .entry)) ⌝ }
 {
     let first = 2 * pair;
     if cache[ENTRY * (first + 1)] < cache[ENTRY * first] {
@@ -153,7 +160,7 @@ fn victim(cache: &[u32], pair: usize) -> usize
 
 // Writes the i-th entry, over what was there.
 fn write_at(cache: &mut [u32], i: usize, key: &[u32; KEY], number: u32)
-    requires { ⌜ 29 * i + 29 ≤ length (now cache) ⌝ }
+    requires { ⌜ entryWords * i + entryWords ≤ length (now cache) ⌝ }
     ensures { λ _. ⌜ Stored (now (cache .entry)) (now (cache .exit)) (now (key .entry)) number ⌝ }
 {
     let at = ENTRY * i;
@@ -165,12 +172,14 @@ fn write_at(cache: &mut [u32], i: usize, key: &[u32; KEY], number: u32)
     }
 }
 
-// Whether the lists of so many rows, of `count` that there are, are kept: trying fewer takes no longer than looking them up.
+// Whether the lists of so many rows, out of `count`, are kept: 8 of one row, or 16 of more. Trying fewer takes no longer than looking
+// them up.
 pub fn is_kept(count: u8, left: usize) -> bool {
     match left {
         0 => false,
         1 => 8 <= count,
-        2 => 3 <= count,
+        2 => 4 <= count,
+        3 => 3 <= count,
         _ => 2 <= count,
     }
 }
@@ -186,7 +195,7 @@ pub fn lookup(
     left: usize,
 ) -> Slot
     requires { ⌜ Keyed left (runOf position (now variables) (now balances)) ⌝ }
-    ensures { λ r. ⌜ (r .pair ≤ 128) × ((r .number ≡ 0 → ⊥) →
+    ensures { λ r. ⌜ (r .pair ≤ pairs) × ((r .number ≡ 0 → ⊥) →
         Found (now (cache .entry)) (keyOf left (runOf position (now (variables .entry)) (now (balances .entry)))) (r .number)) ⌝ }
 {
     if !is_kept(count, left) {
@@ -211,7 +220,7 @@ pub fn store(
     left: usize,
     number: u32,
 )
-    requires { ⌜ (pair ≤ 128) × Keyed left (runOf position (now variables) (now balances)) ⌝ }
+    requires { ⌜ (pair ≤ pairs) × Keyed left (runOf position (now variables) (now balances)) ⌝ }
     ensures { λ _. ⌜ StoredOrNot (now (cache .entry)) (now (cache .exit)) (keyOf left (runOf position (now (variables .entry)) (now (balances .entry)))) number ⌝ }
 {
     if cache.len() < ENTRY * (2 * pair + 2) {

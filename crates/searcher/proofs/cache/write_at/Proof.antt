@@ -5,26 +5,27 @@ use native.Mathlib.Omega.{arith}
 use lib.ListN.{set, length-set}
 use lib.Seq.{getD-set-same}
 use denote.Ref.{now}
+use Rattle.searcher.specs.Caching.{keyWords, entryWords}
 use Rattle.searcher.proofs.Caching.{Writing, writing-first, writing-next, written}
 use Rattle.searcher.proofs.cache.write_at.Statement.{statement}
 use Rattle.searcher.proofs.cache.write_at.Tie as tie
 
 abbrev Inv-loop : tie.InvT-loop
-Inv-loop cache₀ i key number at k₀ cache k = (k ≤ 28) × Writing cache₀ cache key at number k
+Inv-loop cache₀ i key number at k₀ cache k = (k ≤ keyWords) × Writing cache₀ cache key at number k
 
 abbrev μ-loop : tie.MeasureT-loop
-μ-loop cache₀ i key number at k₀ cache k = 28 - k
+μ-loop cache₀ i key number at k₀ cache k = keyWords - k
 
 loop-holds : tie.Need-loop-holds Inv-loop μ-loop
 loop-holds c =
     let a = c .args in
-    (omega arith, writing-first _ _ _ _ (getD-set-same (now (a .cache)) (29 * a .i) (a .number) 0 (omega (arith, c .pre))))
+    (omega arith, writing-first _ _ _ _ (getD-set-same (now (a .cache)) (entryWords * a .i) (a .number) 0 (omega (arith, c .pre))))
 
 slice-write-cache-2 : tie.Need-slice-write-cache-2 Inv-loop μ-loop
 slice-write-cache-2 c =
     let h = c .before .before in
     let a = h .before .args in
-    omega (arith, h .loop .inv .1 .full, length-set (now (a .cache)) (29 * a .i) (a .number), h .before .pre)
+    omega (arith, h .loop .inv .1 .full, length-set (now (a .cache)) (entryWords * a .i) (a .number), h .before .pre)
 
 loop-again : tie.Need-loop-again Inv-loop μ-loop
 loop-again c =
@@ -32,15 +33,15 @@ loop-again c =
     let s = h .before in
     let a = s .args in (
       omega arith,
-      writing-next (set (now (a .cache)) (29 * a .i) (a .number)) (h .loop .cache) (now (a .key)) (29 * a .i) (a .number) (h .loop .k)
-          (omega (arith, c .before .loop-test .taken)) (omega (arith, length-set (now (a .cache)) (29 * a .i) (a .number), s .pre)) (h .loop .inv .1),
+      writing-next (set (now (a .cache)) (entryWords * a .i) (a .number)) (h .loop .cache) (now (a .key)) (entryWords * a .i) (a .number) (h .loop .k)
+          (omega (arith, c .before .loop-test .taken)) (omega (arith, length-set (now (a .cache)) (entryWords * a .i) (a .number), s .pre)) (h .loop .inv .1),
     )
 
 same-length : tie.Need-same-length Inv-loop μ-loop
 same-length c =
     let h = c .before in
     let a = h .before .args in
-    h .loop .inv .1 .full ∙ length-set (now (a .cache)) (29 * a .i) (a .number)
+    h .loop .inv .1 .full ∙ length-set (now (a .cache)) (entryWords * a .i) (a .number)
 
 returns : tie.Need-returns Inv-loop μ-loop
 returns c =
