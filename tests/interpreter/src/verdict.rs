@@ -154,6 +154,6 @@ impl<'a> Search<'a> {
 }
 
 /// The number of lists within the depth: at most 16^8 + ... + 1.
-fn lists_within(rows: u64, depth: u8) -> u64 {
+pub fn lists_within(rows: u64, depth: u8) -> u64 {
     (0..=depth as u32).map(|length| rows.pow(length)).sum()
 }
