@@ -75,10 +75,10 @@ impl Tally {
         let [times, inside, end, broken] = self.again;
         println!("searches that met a position again: {times}");
         println!("the bound among the lists below it {inside}, at their end {end}; the rule broken later {broken}");
-        self.must_be_met(all_must_be_met && times == 0, "a position met again");
-        self.must_be_met(all_must_be_met && inside == 0, "a bound among the lists below a position met again");
-        self.must_be_met(all_must_be_met && end == 0, "a bound at their end");
-        self.must_be_met(all_must_be_met && broken == 0, "a rule broken after a position met again");
+        self.must_be_met(all_must_be_met && times == 0, "a repeated position");
+        self.must_be_met(all_must_be_met && inside == 0, "a bound among the lists below a repeated position");
+        self.must_be_met(all_must_be_met && end == 0, "a bound at the end of the lists below one");
+        self.must_be_met(all_must_be_met && broken == 0, "a rule broken after a repeated position");
     }
 
     fn report_operation(&mut self, operation: Operation, all_must_be_met: bool) {
