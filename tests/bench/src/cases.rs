@@ -5,7 +5,7 @@ use interpreter::generate::damage::{damaged, deepened};
 use interpreter::generate::limits::limit_files;
 use interpreter::generate::search::search_files;
 use interpreter::generate::worst::worst_files;
-use interpreter::generate::{self, edges, write};
+use interpreter::generate::{self, edges, repeats, write};
 use interpreter::random::Random;
 use interpreter::read::read;
 
@@ -14,6 +14,8 @@ pub struct Case {
     pub name: String,
     pub bytes: Vec<u8>,
     pub refusal: Option<u32>,
+    /// Whether its searches are to come to positions again.
+    pub repeats: bool,
 }
 
 pub struct Cases {
@@ -23,12 +25,14 @@ pub struct Cases {
 
 /// The units that one verdict on a random file may take in all.
 const MOST_UNITS: u64 = 1_000_000;
+/// The name of files whose searches come to positions again.
+const REPEATS: &str = "repeats";
 /// The bound's place in a file.
 const BOUND: std::ops::Range<usize> = 12..16;
 
 impl Cases {
     pub fn new(seed: u64) -> Self {
-        let case = |name: String, bytes, refusal| Case { name, bytes, refusal };
+        let case = |name: String, bytes, refusal| Case { name, bytes, refusal, repeats: false };
         let mut by_hand = vec![case("counter".into(), write::bytes(&generate::counter()), Some(0))];
         let limits = limit_files().into_iter();
         by_hand.extend(limits.map(|l| case(format!("limit {}", l.label), l.bytes, Some(l.refusal as u32))));
@@ -46,9 +50,7 @@ impl Cases {
     pub fn nth(&self, number: u64) -> (Case, u64) {
         let seed = self.seed.wrapping_add(number);
         match self.by_hand.get(number as usize) {
-            Some(Case { name, bytes, refusal }) => {
-                (Case { name: name.clone(), bytes: bytes.clone(), refusal: *refusal }, seed)
-            }
+            Some(case) => (Case { name: case.name.clone(), bytes: case.bytes.clone(), ..*case }, seed),
             None => (random_case(seed), seed),
         }
     }
@@ -56,14 +58,15 @@ impl Cases {
 
 fn random_case(seed: u64) -> Case {
     let mut random = Random::new(seed);
-    let (name, bytes) = match random.below(100) {
+    let (name, bytes) = match random.below(120) {
         0..=44 => ("random", quick(generate::file(random.next()))),
         45..=69 => ("damaged", quick(damaged(random.next()))),
         70..=79 => ("deepened", quick(deepened(random.next()))),
         80..=91 => ("edges", quick(edges::at_edges(&mut random))),
-        _ => ("two faults", quick(edges::changed_at_place(&mut random))),
+        92..=99 => ("two faults", quick(edges::changed_at_place(&mut random))),
+        _ => (REPEATS, repeats::file(&mut random)),
     };
-    Case { name: format!("{name} {seed}"), bytes, refusal: None }
+    Case { name: format!("{name} {seed}"), bytes, refusal: None, repeats: name == REPEATS }
 }
 
 /// Lowers the bound of an accepted file whose verdicts would take long.

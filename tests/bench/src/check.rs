@@ -222,13 +222,7 @@ impl Check<'_> {
         let lent = self.lent(room);
         let (mut mine, mut theirs) = (lent.clone(), lent);
         let answer = library::verdict(self.file, rule, &mut theirs);
-        let right = verdict(self.file, rule, &mut mine);
-        let mut expected = [0; 13];
-        let head = [right.refusal as u32, right.place, right.verdict as u32, right.tried, right.rows.len() as u32];
-        expected[..5].copy_from_slice(&head);
-        for (entry, row) in expected[5..].iter_mut().zip(&right.rows) {
-            *entry = *row as u32;
-        }
+        let expected = library::laid_out(&verdict(self.file, rule, &mut mine));
         self.tally.judged(expected[2]);
         let what = format!("verdict on rule {rule} with {room} words");
         self.tally.compare(Operation::Verdict, &what, (answer, theirs), (expected, mine), expected[0]);

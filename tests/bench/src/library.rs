@@ -4,6 +4,7 @@
 #![allow(unused_mut, unused_variables, dead_code)]
 
 use interpreter::machine::{Call, State};
+use interpreter::verdict::Verdict;
 
 extern "C" {
     fn agreement_read(file: *const u8, len: usize, answer: *mut u32);
@@ -61,6 +62,17 @@ pub fn record(state: &State) -> Record {
     record[17..25].copy_from_slice(&state.balances);
     record[25] = state.own;
     record
+}
+
+/// A verdict as the interface lays it out.
+pub fn laid_out(verdict: &Verdict) -> [u32; 13] {
+    let mut answer = [0; 13];
+    let Verdict { refusal, place, verdict, tried, rows } = verdict;
+    answer[..5].copy_from_slice(&[*refusal as u32, *place, *verdict as u32, *tried, rows.len() as u32]);
+    for (entry, row) in answer[5..].iter_mut().zip(rows) {
+        *entry = *row as u32;
+    }
+    answer
 }
 
 pub fn read(file: &[u8]) -> [u32; 2] {

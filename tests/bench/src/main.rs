@@ -21,6 +21,7 @@ mod tally;
 use cases::Cases;
 use check::check;
 use found::Found;
+use interpreter::{again, read};
 use operations::Operation;
 use std::io::Read;
 use std::os::unix::fs::FileExt;
@@ -33,6 +34,8 @@ const STACK: usize = 256 * 1024;
 const HANGS: Duration = Duration::from_secs(120);
 /// The report program is run on one random file in so many.
 const REPORTED: u64 = 20;
+/// So many random files must meet positions again in all ways.
+const ENOUGH: u64 = 2_000;
 
 fn main() {
     let words: Vec<String> = std::env::args().skip(1).collect();
@@ -129,6 +132,9 @@ fn work(cases: Cases, count: Option<u64>, time: Duration, progress: &str) -> boo
         compare(&cases, number, &mut tally, &mut found);
     }
     tally.report(count.is_some());
+    if Operation::Verdict.compared() {
+        tally.report_again(count.is_some_and(|count| count >= ENOUGH));
+    }
     tally.finish()
 }
 
@@ -136,6 +142,9 @@ fn compare(cases: &Cases, number: u64, tally: &mut Tally, found: &mut Found) {
     let (case, seed) = cases.nth(number);
     let reported = number < cases.by_hand() || number % REPORTED == 0;
     on_small_stack(|| check(&case.bytes, seed, reported, tally));
+    if case.repeats {
+        search(&case.bytes, tally);
+    }
     if let Some(refusal) = case.refusal.filter(|_| Operation::Read.compared()) {
         let answer = library::read(&case.bytes)[0];
         tally.compare(Operation::Read, "the refusal written down", answer, refusal, refusal);
@@ -147,6 +156,14 @@ fn compare(cases: &Cases, number: u64, tally: &mut Tally, found: &mut Found) {
             let fault = difference.operation.name().to_string();
             found.add(&case.name, &case.bytes, seed, &fault, &difference.text);
         }
+    }
+}
+
+/// Tells the tally how the searches of a file come to positions again.
+fn search(file: &[u8], tally: &mut Tally) {
+    let agreement = read::read(file).expect("a file whose searches come to positions again is accepted");
+    for rule in 0..agreement.rules.len() {
+        tally.searched(&again::again(&agreement, rule));
     }
 }
 

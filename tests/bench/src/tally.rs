@@ -1,6 +1,7 @@
 //! What was compared: how many comparisons of each operation agreed, those that differ, and how often each refusal was met.
 
 use crate::operations::Operation;
+use interpreter::again::Again;
 use std::fmt::Debug;
 
 /// A comparison in which the library and the interpreter differ.
@@ -16,6 +17,9 @@ pub struct Tally {
     /// By operation and refusal; 0 is accepted, completed or judged.
     met: [[u64; 28]; 8],
     verdicts: [u64; 4],
+    /// Searches that came to a position again, where the bound fell inside and at the end of the lists below it, and where a
+    /// list broke the rule later.
+    again: [u64; 4],
     /// Those of the present file.
     pub differences: Vec<Difference>,
 }
@@ -44,6 +48,11 @@ impl Tally {
         self.verdicts[verdict as usize] += 1;
     }
 
+    pub fn searched(&mut self, met: &Again) {
+        let all = [!met.ends.is_empty(), met.bound_inside, met.bound_at_end, met.broken_after];
+        self.again.iter_mut().zip(all).for_each(|(count, met)| *count += met as u64);
+    }
+
     /// Prints what was met; a refusal or verdict that can be met and was not is a failure.
     pub fn report(&mut self, all_must_be_met: bool) {
         for operation in Operation::ALL {
@@ -59,6 +68,17 @@ impl Tally {
             self.must_be_met(all_must_be_met && self.verdicts[1..].contains(&0), "a verdict");
         }
         self.report_numbers(all_must_be_met);
+    }
+
+    /// How often positions were met again; what was not met is a failure.
+    pub fn report_again(&mut self, all_must_be_met: bool) {
+        let [times, inside, end, broken] = self.again;
+        println!("searches that met a position again: {times}");
+        println!("the bound among the lists below it {inside}, at their end {end}; the rule broken later {broken}");
+        self.must_be_met(all_must_be_met && times == 0, "a repeated position");
+        self.must_be_met(all_must_be_met && inside == 0, "a bound among the lists below a repeated position");
+        self.must_be_met(all_must_be_met && end == 0, "a bound at the end of the lists below one");
+        self.must_be_met(all_must_be_met && broken == 0, "a rule broken after a repeated position");
     }
 
     fn report_operation(&mut self, operation: Operation, all_must_be_met: bool) {

@@ -4,6 +4,7 @@
 //! - `limits`: files at and just past every limit of the format.
 //! - `worst`: the files that ask most of stack and time.
 //! - `search`: verdicts that try many lists.
+//! - `repeats`: verdicts whose search comes to the same position by many lists.
 //! - `edges`: outcomes that one unit, list or byte more would change.
 //! - `calls`: lists of calls, unfit records and lent words.
 
@@ -11,6 +12,7 @@ pub mod calls;
 pub mod damage;
 pub mod edges;
 pub mod limits;
+pub mod repeats;
 pub mod search;
 pub mod worst;
 pub mod write;

@@ -1,5 +1,6 @@
 //! An interpreter of deposit agreements, made from document 01 alone.
 
+pub mod again;
 pub mod check;
 pub mod expand;
 pub mod generate;

@@ -9,7 +9,7 @@
 use crate::tree::{Agreement, Expression, FIRST_LOCAL};
 use crate::values::{self, View};
 
-#[derive(Clone, Copy, Debug, Default, PartialEq, Eq)]
+#[derive(Clone, Copy, Debug, Default, PartialEq, Eq, Hash)]
 pub struct State {
     pub state: u32,
     pub variables: [u32; 16],

@@ -65,19 +65,19 @@ pub fn row_call(row: &Row) -> Call {
 
 /// What a rule needs to know of the calls so far.
 #[derive(Clone, Copy)]
-struct History {
-    state: State,
-    q_seen: bool,
-    broken: bool,
+pub struct History {
+    pub state: State,
+    pub q_seen: bool,
+    pub broken: bool,
 }
 
 impl History {
-    fn fresh(rule: &Rule, state: State) -> Self {
+    pub fn fresh(rule: &Rule, state: State) -> Self {
         let broken = matches!(rule, Rule::Always(e) if !holds(e, &state));
         History { state, q_seen: false, broken }
     }
 
-    fn after(self, agreement: &Agreement, rule: &Rule, call: &Call) -> Self {
+    pub fn after(self, agreement: &Agreement, rule: &Rule, call: &Call) -> Self {
         let outcome = run::call_read(agreement, &self.state, call);
         if outcome.refusal != 0 {
             return self;
@@ -154,6 +154,6 @@ impl<'a> Search<'a> {
 }
 
 /// The number of lists within the depth: at most 16^8 + ... + 1.
-fn lists_within(rows: u64, depth: u8) -> u64 {
+pub fn lists_within(rows: u64, depth: u8) -> u64 {
     (0..=depth as u32).map(|length| rows.pow(length)).sum()
 }

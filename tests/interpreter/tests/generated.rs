@@ -2,12 +2,13 @@
 //! self-check.
 
 use interpreter::check::selfcheck;
-use interpreter::generate::{self, limits::limit_files, worst::worst_files};
+use interpreter::generate::{self, limits::limit_files, repeats, worst::worst_files};
+use interpreter::random::Random;
 use interpreter::read::read;
 use interpreter::run::{self, Call};
 use interpreter::tree::{Agreement, ExpressionKind, Rule};
 use interpreter::values::{value, View};
-use interpreter::verdict::{judge, row_call, BROKEN, HELD, SPENT};
+use interpreter::verdict::{judge, lists_within, row_call, BROKEN, HELD, SPENT};
 
 #[test]
 fn limits_meet_their_refusals() {
@@ -73,16 +74,18 @@ fn plain_verdict(agreement: &Agreement, rule: &Rule) -> (u8, u32, Vec<u8>) {
 #[test]
 fn verdicts_agree_with_a_plainer_search() {
     let mut seen = [0; 4];
-    for seed in 0..600 {
-        let agreement = read(&generate::file(seed)).unwrap();
-        let small = agreement.bound <= 400 && agreement.limit <= 300;
+    let repeats = (0..150).map(|seed| repeats::file(&mut Random::new(seed)));
+    for (number, file) in (0..600).map(generate::file).chain(repeats).enumerate() {
+        let agreement = read(&file).unwrap();
+        let all = lists_within(agreement.rows.len() as u64, agreement.depth);
+        let small = all.min(agreement.bound as u64) <= 1_200 && agreement.limit <= 300;
         if !small || run::start_read(&agreement).refusal != 0 {
             continue;
         }
         for (i, rule) in agreement.rules.iter().enumerate() {
             let answer = judge(&agreement, i);
             let expected = plain_verdict(&agreement, rule);
-            assert_eq!((answer.verdict, answer.tried, answer.rows), expected, "seed {seed}");
+            assert_eq!((answer.verdict, answer.tried, answer.rows), expected, "file {number}");
             seen[answer.verdict as usize] += 1;
         }
     }

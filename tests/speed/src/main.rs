@@ -18,6 +18,8 @@ fn main() {
     println!("| what | library | interpreter | ratio |");
     println!("|---|---:|---:|---:|");
     verdicts();
+    distinct_positions();
+    rules_of_examples();
     readings();
     expansions();
     calls();
@@ -26,15 +28,20 @@ fn main() {
 /// The least times of two functions, run in turns.
 fn measured<T, U>(mut library: impl FnMut() -> T, mut interpreter: impl FnMut() -> U) -> [f64; 2] {
     let begun = Instant::now();
-    let many = (TURN.as_secs_f64() / timed(&mut library, 1).as_secs_f64()) as u32 + 1;
+    let many = [a_turn(&mut library), a_turn(&mut interpreter)];
     let mut least = [Duration::MAX; 2];
     let mut rounds = 0;
     while begun.elapsed() < LONG_ENOUGH || rounds < 3 {
-        least[0] = least[0].min(timed(&mut library, many));
-        least[1] = least[1].min(timed(&mut interpreter, many));
+        least[0] = least[0].min(timed(&mut library, many[0]));
+        least[1] = least[1].min(timed(&mut interpreter, many[1]));
         rounds += 1;
     }
-    least.map(|time| time.as_secs_f64() / many as f64)
+    [0, 1].map(|i| least[i].as_secs_f64() / many[i] as f64)
+}
+
+/// How many calls make a turn.
+fn a_turn<T>(f: &mut impl FnMut() -> T) -> u32 {
+    (TURN.as_secs_f64() / timed(f, 1).as_secs_f64()) as u32 + 1
 }
 
 /// The time of so many calls.
@@ -78,24 +85,79 @@ fn verdicts() {
         ("15 rows to depth 5, short actions", search::short_actions(), search::LISTS),
         ("15 rows to depth 5, a loop of 40 turns in each call", search::loops_of_40(), search::LISTS),
         ("15 rows, every call uses 4,096 units, 2,000 lists", search::calls_of_4096_units(), 2_000),
+        ("16 rows, an endless loop in every call, 5,000 lists", search::endless_loops(5_000), 5_000),
         (&last, search::late_counterexample(), search::LISTS),
     ] {
-        verdict_row(&format!("verdict: {what}"), &file, lists);
+        verdict_row(what, &[(file, 0)], lists);
     }
 }
 
-fn verdict_row(what: &str, file: &[u8], lists: u32) {
+/// Searches that never come to a position twice with as many rows left.
+fn distinct_positions() {
+    for (rows, depth) in [(1, 8), (2, 8), (3, 8), (4, 8), (8, 6), (15, 5)] {
+        let lists = verdict::lists_within(rows as u64, depth) as u32;
+        let many = if rows == 1 { "row" } else { "rows" };
+        let what = format!("{rows} {many} to depth {depth}, all {} lists to different positions", grouped(lists as f64));
+        verdict_row(&what, &[(search::all_distinct(rows, depth), 0)], lists);
+    }
+}
+
+fn rules_of_examples() {
+    let all = examples();
+    examples_row("the blind auction's rules", all.iter().filter(|(name, _)| name == "blind-auction"));
+    examples_row("all rules of all examples", all.iter());
+}
+
+/// The agreements of examples/agreements, by name.
+fn examples() -> Vec<(String, Vec<u8>)> {
+    let folder = concat!(env!("CARGO_MANIFEST_DIR"), "/../../examples/agreements");
+    let entries = std::fs::read_dir(folder).expect("the examples' folder");
+    let paths = entries.map(|entry| entry.expect("an entry of the examples' folder").path());
+    let mut all: Vec<_> = paths
+        .filter(|path| path.extension().is_some_and(|e| e == "agreement"))
+        .map(|path| {
+            let name = path.file_stem().expect("a name").to_string_lossy().into_owned();
+            (name, std::fs::read(path).expect("an example"))
+        })
+        .collect();
+    all.sort();
+    all
+}
+
+/// All rules of these examples in one row.
+fn examples_row<'a>(what: &str, files: impl Iterator<Item = &'a (String, Vec<u8>)>) {
+    let mut asked = Vec::new();
+    let mut lists = 0;
+    for (name, file) in files {
+        let agreement = read::read(file).unwrap_or_else(|_| panic!("{name} is refused"));
+        let rules = 0..agreement.rules.len();
+        lists += rules.clone().map(|rule| verdict::judge(&agreement, rule).tried).sum::<u32>();
+        asked.extend(rules.map(|rule| (file.clone(), rule as u32)));
+    }
+    assert!(!asked.is_empty(), "{what}: no rule");
+    verdict_row(&format!("{what}, {} lists", grouped(lists as f64)), &asked, lists);
+}
+
+/// The verdicts on these files' rules, which try so many lists in all.
+fn verdict_row(what: &str, asked: &[(Vec<u8>, u32)], lists: u32) {
+    let what = &format!("verdict: {what}");
     if !cfg!(agreement_verdict) {
         return not_there(what);
     }
     let mut words = vec![0; 5_120];
-    let expected = verdict::verdict(file, 0, &mut words);
-    let answer = library::verdict(file, 0, &mut words);
-    assert_eq!(answer[..4], [0, 0, expected.verdict as u32, lists], "{what}");
     let mut other = words.clone();
+    let mut library = |(file, rule): &(Vec<u8>, u32)| library::verdict(file, *rule, &mut words);
+    let mut interpreter = |(file, rule): &(Vec<u8>, u32)| verdict::verdict(file, *rule, &mut other);
+    let mut tried = 0;
+    for one in asked {
+        let expected = interpreter(one);
+        tried += expected.tried;
+        assert_eq!(library(one), library::laid_out(&expected), "{what}, rule {}", one.1);
+    }
+    assert_eq!(tried, lists, "{what}");
     let times = measured(
-        || library::verdict(file, 0, &mut words),
-        || verdict::verdict(file, 0, &mut other),
+        || asked.iter().map(&mut library).fold(0, |sum, answer| sum ^ answer[3]),
+        || asked.iter().map(&mut interpreter).fold(0, |sum, answer| sum ^ answer.tried),
     );
     row(what, times, |seconds| format!("{} lists/s", grouped(lists as f64 / seconds)));
 }

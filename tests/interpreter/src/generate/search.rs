@@ -63,6 +63,24 @@ fn late(bound: u32) -> Agreement {
     Agreement { bound, ..base(|name| if name == ROWS - 1 { count_up(0) } else { set(1, constant(1)) }) }
 }
 
+/// Every list leads to another position: each call writes its row's number as the last digit of v1. The rule holds.
+pub fn all_distinct(rows: u8, depth: u8) -> Vec<u8> {
+    let shifted = binary(2, variable(1), constant(rows as u32 + 1));
+    let written = set(1, binary(0, shifted, ExpressionKind::Argument(0).into()));
+    let mut a = base(|_| written.clone());
+    let row = |i| Row { name: 0, sender: 0, coins: 0, arguments: [i as u32, 0, 0, 0] };
+    (a.depth, a.rows) = (depth, (1..=rows).map(row).collect());
+    bytes(&a)
+}
+
+/// Every call of 16 rows loops until the units are used up, so it is refused; the bound is spent.
+pub fn endless_loops(bound: u32) -> Vec<u8> {
+    let mut a = base(|_| StatementKind::While(constant(1), Box::new(count_up(0))).into());
+    a.rows.push(a.rows[0].clone());
+    (a.depth, a.bound) = (8, bound);
+    bytes(&a)
+}
+
 /// Bounds at the number of lists and one below it, and the most lists that a file can ask for.
 pub fn search_files() -> Vec<(String, Vec<u8>)> {
     let mut most = short(1_000_000);
