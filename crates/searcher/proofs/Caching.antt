@@ -14,16 +14,15 @@ use Rattle.rules.specs.declared.State.{State}
 use Rattle.rules.specs.Answers.{stateNumbers, stateFrom}
 use Rattle.rules.specs.Demands.{Shaped}
 use Rattle.rules.proofs.RoundTrips.{records-round-trip}
-use Rattle.runner.proofs.Numbers.{entries, entries-all}
 use Rattle.searcher.specs.declared.Plan.{Plan}
 use Rattle.searcher.specs.declared.Status.{Status}
 use Rattle.searcher.specs.Searching.{Run}
-use Rattle.searcher.specs.Caching.{keyWords, entryWords, standingOf, keyOf, numberAt, KeyAt, Found, Stored, StoredOrNot, NoneBreaks, Stands, Sound}
+use Rattle.searcher.specs.Caching.{recordWords, keyWords, entryWords, standingOf, keyOf, numberAt, KeyAt, Found, Stored, StoredOrNot, NoneBreaks, Stands, Sound}
 use Rattle.searcher.proofs.Events.{zeros}
 
 -- ---- keys
 
-numbers-length : (s : State) → Shaped s → length (stateNumbers s) ≡ 26
+numbers-length : (s : State) → Shaped s → length (stateNumbers s) ≡ recordWords
 unfolding stateNumbers
 numbers-length s h =
     let one : List ℕ = s .own ∷ [] in
@@ -33,12 +32,35 @@ key-length : (left : ℕ) (run : Run) → Shaped (run .state) → length (keyOf 
 unfolding keyOf
 key-length left run h = omega (arith, numbers-length (run .state) h)
 
--- the key of a run, word by word
-pub key-is : (left n : ℕ) (run : Run) (w : List ℕ) → Shaped (run .state) → n ≡ standingOf (run .status .broken) (run .status .seen)
-    → w ≡ stateNumbers (run .state) → left ∷ n ∷ entries 26 0 w ≡ keyOf left run
+-- a key is made word by word: after two words, i of the record's
+pub record Filled (rows standing : ℕ) (words key : List ℕ) (i : ℕ) : Type 0 where
+  pub full : length key ≡ keyWords
+  pub rows-left : getD key 0 0 ≡ rows
+  pub how : getD key 1 0 ≡ standing
+  pub record-words : (j : ℕ) → j < i → getD key (j + 2) 0 ≡ getD words j 0
+
+pub filled-next : (rows standing : ℕ) (words key : List ℕ) (i : ℕ) → i < recordWords → Filled rows standing words key i
+    → Filled rows standing words (set key (i + 2) (getD words i 0)) (i + 1)
+filled-next rows standing words key i less f =
+    record {
+      full = length-set key (i + 2) (getD words i 0) ∙ f .full;
+      rows-left = getD-set-other key (i + 2) 0 (getD words i 0) 0 (λ e. omega arith) ∙ f .rows-left;
+      how = getD-set-other key (i + 2) 1 (getD words i 0) 0 (λ e. omega arith) ∙ f .how;
+      record-words = below-more _ _ (λ j l. getD-set-other key (i + 2) (j + 2) (getD words i 0) 0 (λ e. omega arith) ∙ f .record-words j l)
+          (getD-set-same key (i + 2) (getD words i 0) 0 (omega (arith, f .full)));
+    }
+
+pub key-is : (left standing : ℕ) (run : Run) (words key : List ℕ) → Shaped (run .state) → standing ≡ standingOf (run .status .broken) (run .status .seen)
+    → words ≡ stateNumbers (run .state) → Filled left standing words key recordWords → key ≡ keyOf left run
 unfolding keyOf
-key-is left n run w h standing numbers =
-    rw (standing, entries-all 26 w (ap length numbers ∙ numbers-length (run .state) h)) (ap (λ (l : List ℕ). left ∷ standingOf (run .status .broken) (run .status .seen) ∷ l) numbers)
+key-is left standing run words key h is numbers f = ext-getD 0 key (keyOf left run) (f .full ∙ sym (key-length left run h)) go
+  where
+    go : (k : ℕ) → k < length key → getD key k 0 ≡ getD (left ∷ standingOf (run .status .broken) (run .status .seen) ∷ stateNumbers (run .state)) k 0
+    go zero less = f .rows-left
+    go (suc zero) less = f .how ∙ is
+    go (suc (suc k)) less =
+        let e : suc (suc k) ≡ k + 2 = omega arith in
+        ap (λ (j : ℕ). getD key j 0) e ∙ f .record-words k (omega (arith, f .full)) ∙ ap (λ (w : List ℕ). getD w k 0) numbers
 
 -- the way back from a standing
 abbrev statusOf : ℕ → Status

@@ -12,12 +12,15 @@ use Rattle.rules.specs.Lists.{listsOf}
 use Rattle.searcher.specs.declared.Plan.{Plan}
 use Rattle.searcher.specs.Searching.{Run, Planned, breaksIn}
 
--- the words of a key and of an entry, and the pairs of entries
+-- the words of a state record, of a key and of an entry, and the pairs of entries
+abbrev pub recordWords : ℕ
+recordWords = 26
+
 abbrev pub keyWords : ℕ
-keyWords = 28
+keyWords = recordWords + 2
 
 abbrev pub entryWords : ℕ
-entryWords = 29
+entryWords = keyWords + 1
 
 abbrev pub pairs : ℕ
 pairs = 128

@@ -11,9 +11,11 @@ ghost use lib.ListN.{length};
 ghost use Rattle.searcher.specs.Searching.{runOf};
 ghost use Rattle.searcher.specs.Caching.{entryWords, pairs, standingOf, keyOf, Keyed, KeyAt, Found, Stored, StoredOrNot};
 
-// The words of a key: the rows left, how the rule stands, and the 26 of the state record. Where records have more words, this number
-// and the list that `key_of` makes are what changes here.
-const KEY: usize = 28;
+// The words of a state record. Where records have more, this number changes, and here nothing else.
+const RECORD: usize = 26;
+
+// A key has two words before those of the record: the rows left, and how the rule stands.
+const KEY: usize = RECORD + 2;
 
 const ENTRY: usize = KEY + 1;
 
@@ -47,44 +49,21 @@ fn key_of(position: Position, variables: &[u32; 16], balances: &[u32; 8], left: 
     requires { ⌜ Keyed left (runOf position (now variables) (now balances)) ⌝ }
     ensures { λ r. ⌜ r ≡ keyOf left (runOf position (now (variables .entry)) (now (balances .entry))) ⌝ }
 {
-    let rows = left as u32;
-    let status = standing(position.status);
-    let w = state_words(State {
+    let words = state_words(State {
         state: position.state,
         variables: *variables,
         balances: *balances,
         own: position.own,
     });
-    [
-        rows,
-        status,
-        w[0],
-        w[1],
-        w[2],
-        w[3],
-        w[4],
-        w[5],
-        w[6],
-        w[7],
-        w[8],
-        w[9],
-        w[10],
-        w[11],
-        w[12],
-        w[13],
-        w[14],
-        w[15],
-        w[16],
-        w[17],
-        w[18],
-        w[19],
-        w[20],
-        w[21],
-        w[22],
-        w[23],
-        w[24],
-        w[25],
-    ]
+    let mut key = [0u32; KEY];
+    key[0] = left as u32;
+    key[1] = standing(position.status);
+    let mut i = 0;
+    while i < RECORD {
+        key[i + 2] = words[i];
+        i += 1;
+    }
+    key
 }
 
 fn folded(a: u32, b: u32) -> u32 {
