@@ -60,7 +60,7 @@ fn key_of(position: Position, variables: &[u32; 16], balances: &[u32; 8], left: 
     key[1] = standing(position.status);
     let mut i = 0;
     while i < RECORD {
-        key[i + 2] = words[i];
+        key[2 + i] = words[i];
         i += 1;
     }
     key
