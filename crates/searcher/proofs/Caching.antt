@@ -1,6 +1,6 @@
--- The cache of a search: keys, an entry that is written, and what the entries stand for.
+-- The cache of a search: words that are copied, keys, an entry that is written, and what the entries stand for.
 -- Assumes nothing.
-use Prim.Native.Nat.{ℕ, zero, suc, _+_, _-_, _*_, _<_, _≤_}
+use Prim.Native.Nat.{ℕ, zero, suc, _+_, _*_, _<_, _≤_}
 use mathlib.Core.Path.{_≡_, refl, sym, ap, subst, _∙_}
 use mathlib.Core.Logic.{_⊎_, inl, inr}
 use mathlib.Core.Bool.{Bool, true, false}
@@ -8,7 +8,7 @@ use mathlib.Core.List.{List, [], _∷_, _++_}
 use native.Mathlib.Decide.{decLt}
 use native.Mathlib.Omega.{arith}
 use borrow.Author.Count.{below-more}
-use lib.ListN.{length, getD, set, replicate, length-append, length-set, length-replicate}
+use lib.ListN.{length, getD, set, replicate, length-append, length-set}
 use lib.Seq.{ext-getD, getD-set-same, getD-set-other}
 use Rattle.rules.specs.declared.State.{State}
 use Rattle.rules.specs.Answers.{stateNumbers, stateFrom}
@@ -17,8 +17,33 @@ use Rattle.rules.proofs.RoundTrips.{records-round-trip}
 use Rattle.searcher.specs.declared.Plan.{Plan}
 use Rattle.searcher.specs.declared.Status.{Status}
 use Rattle.searcher.specs.Searching.{Run}
-use Rattle.searcher.specs.Caching.{recordWords, keyWords, entryWords, standingOf, keyOf, numberAt, KeyAt, Found, Stored, StoredOrNot, NoneBreaks, Stands, Sound}
+use Rattle.searcher.specs.Caching.{recordWords, keyWords, entryWords, standingOf, keyOf, numberAt, Found, Stored, StoredOrNot, NoneBreaks, Stands, Sound}
 use Rattle.searcher.proofs.Events.{zeros}
+
+-- ---- words that are copied
+
+-- k words stand from a base on, and all else is as it was
+pub record Copied (before after words : List ℕ) (base k : ℕ) : Type 0 where
+  pub full : length after ≡ length before
+  pub copy : (j : ℕ) → j < k → getD after (base + j) 0 ≡ getD words j 0
+  pub others : (j : ℕ) → (j < base) ⊎ (base + k ≤ j) → getD after j 0 ≡ getD before j 0
+
+pub copied-none : (before words : List ℕ) (base : ℕ) → Copied before before words base 0
+copied-none before words base = record { full = refl; copy = λ j less. absurd (omega arith); others = λ j o. refl }
+
+pub copied-next : (before m words : List ℕ) (base k : ℕ) → base + k < length before → Copied before m words base k
+    → Copied before (set m (base + k) (getD words k 0)) words base (k + 1)
+copied-next before m words base k room c =
+    record {
+      full = length-set m (base + k) (getD words k 0) ∙ c .full;
+      copy = below-more _ _ (λ j l. getD-set-other m (base + k) (base + j) (getD words k 0) 0 (λ e. omega arith) ∙ c .copy j l)
+          (getD-set-same m (base + k) (getD words k 0) 0 (omega (arith, c .full)));
+      others = out;
+    }
+  where
+    out : (j : ℕ) → (j < base) ⊎ (base + (k + 1) ≤ j) → getD (set m (base + k) (getD words k 0)) j 0 ≡ getD before j 0
+    out j (inl a) = getD-set-other m (base + k) j (getD words k 0) 0 (λ e. omega arith) ∙ c .others j (inl a)
+    out j (inr a) = getD-set-other m (base + k) j (getD words k 0) 0 (λ e. omega arith) ∙ c .others j (inr (omega arith))
 
 -- ---- keys
 
@@ -32,35 +57,20 @@ key-length : (left : ℕ) (run : Run) → Shaped (run .state) → length (keyOf 
 unfolding keyOf
 key-length left run h = omega (arith, numbers-length (run .state) h)
 
--- a key is made word by word: after two words, i of the record's
-pub record Filled (rows standing : ℕ) (words key : List ℕ) (i : ℕ) : Type 0 where
-  pub full : length key ≡ keyWords
-  pub rows-left : getD key 0 0 ≡ rows
-  pub how : getD key 1 0 ≡ standing
-  pub record-words : (j : ℕ) → j < i → getD key (j + 2) 0 ≡ getD words j 0
-
-pub filled-next : (rows standing : ℕ) (words key : List ℕ) (i : ℕ) → i < recordWords → Filled rows standing words key i
-    → Filled rows standing words (set key (i + 2) (getD words i 0)) (i + 1)
-filled-next rows standing words key i less f =
-    record {
-      full = length-set key (i + 2) (getD words i 0) ∙ f .full;
-      rows-left = getD-set-other key (i + 2) 0 (getD words i 0) 0 (λ e. omega arith) ∙ f .rows-left;
-      how = getD-set-other key (i + 2) 1 (getD words i 0) 0 (λ e. omega arith) ∙ f .how;
-      record-words = below-more _ _ (λ j l. getD-set-other key (i + 2) (j + 2) (getD words i 0) 0 (λ e. omega arith) ∙ f .record-words j l)
-          (getD-set-same key (i + 2) (getD words i 0) 0 (omega (arith, f .full)));
-    }
-
-pub key-is : (left standing : ℕ) (run : Run) (words key : List ℕ) → Shaped (run .state) → standing ≡ standingOf (run .status .broken) (run .status .seen)
-    → words ≡ stateNumbers (run .state) → Filled left standing words key recordWords → key ≡ keyOf left run
+-- the two words before the record's, and then those
+pub key-is : (left standing : ℕ) (run : Run) (words first key : List ℕ) → Shaped (run .state) → length first ≡ keyWords
+    → getD first 0 0 ≡ left → getD first 1 0 ≡ standing → standing ≡ standingOf (run .status .broken) (run .status .seen)
+    → words ≡ stateNumbers (run .state) → Copied first key words 2 recordWords → key ≡ keyOf left run
 unfolding keyOf
-key-is left standing run words key h is numbers f = ext-getD 0 key (keyOf left run) (f .full ∙ sym (key-length left run h)) go
+key-is left standing run words first key h full rows how is numbers c =
+    ext-getD 0 key (keyOf left run) (c .full ∙ full ∙ sym (key-length left run h)) go
   where
     go : (k : ℕ) → k < length key → getD key k 0 ≡ getD (left ∷ standingOf (run .status .broken) (run .status .seen) ∷ stateNumbers (run .state)) k 0
-    go zero less = f .rows-left
-    go (suc zero) less = f .how ∙ is
+    go zero less = c .others 0 (inl (omega arith)) ∙ rows
+    go (suc zero) less = c .others 1 (inl (omega arith)) ∙ how ∙ is
     go (suc (suc k)) less =
-        let e : suc (suc k) ≡ k + 2 = omega arith in
-        ap (λ (j : ℕ). getD key j 0) e ∙ f .record-words k (omega (arith, f .full)) ∙ ap (λ (w : List ℕ). getD w k 0) numbers
+        let e : suc (suc k) ≡ 2 + k = omega arith in
+        ap (λ (j : ℕ). getD key j 0) e ∙ c .copy k (omega (arith, c .full, full)) ∙ ap (λ (w : List ℕ). getD w k 0) numbers
 
 -- the way back from a standing
 abbrev statusOf : ℕ → Status
@@ -105,49 +115,21 @@ pub compared : {T E : Type 0} (P : ℕ → Type 0) (k : ℕ) (same after : Bool)
 compared P k same after before (inl (t, e)) here s = absurd (let z : _≡_ {A = Bool} false true = sym e ∙ s in let w : _≡_ {A = ℕ} 0 1 = cc in omega arith)
 compared P k same after before (inr (x, e)) here s = below-more _ _ (before (sym e ∙ s)) (here x)
 
-pub record Writing (before m words : List ℕ) (base n k : ℕ) : Type 0 where
-  pub full : length m ≡ length before
-  pub number : getD m base 0 ≡ n
-  pub key : (j : ℕ) → j < k → getD m (base + 1 + j) 0 ≡ getD words j 0
-  pub others : (j : ℕ) → (j < base) ⊎ (base + entryWords ≤ j) → getD m j 0 ≡ getD before j 0
-
-pub writing-first : (m words : List ℕ) (base n : ℕ) → getD m base 0 ≡ n → Writing m m words base n 0
-writing-first m words base n h = record { full = refl; number = h; key = λ j less. absurd (omega arith); others = λ j o. refl }
-
-pub writing-next : (before m words : List ℕ) (base n k : ℕ) → k < keyWords → base + entryWords ≤ length before → Writing before m words base n k
-    → Writing before (set m (base + 1 + k) (getD words k 0)) words base n (k + 1)
-writing-next before m words base n k less room w =
-    record {
-      full = length-set m (base + 1 + k) (getD words k 0) ∙ w .full;
-      number = getD-set-other m (base + 1 + k) base (getD words k 0) 0 (λ e. omega arith) ∙ w .number;
-      key = λ j l. go j l (decLt j k);
-      others = λ j o. getD-set-other m (base + 1 + k) j (getD words k 0) 0 (out j o) ∙ w .others j o;
-    }
-  where
-    out : (j : ℕ) → (j < base) ⊎ (base + entryWords ≤ j) → j ≡ base + 1 + k → ⊥
-    out j (inl a) e = omega arith
-    out j (inr a) e = omega arith
-
-    go : (j : ℕ) → j < k + 1 → Dec (j < k) → getD (set m (base + 1 + k) (getD words k 0)) (base + 1 + j) 0 ≡ getD words j 0
-    go j l (yes h) = getD-set-other m (base + 1 + k) (base + 1 + j) (getD words k 0) 0 (λ e. omega arith) ∙ w .key j h
-    go j l (no h) =
-        let same : k ≡ j = omega arith in
-        subst (λ (i : ℕ). getD (set m (base + 1 + k) (getD words k 0)) (base + 1 + i) 0 ≡ getD words i 0) same
-        (getD-set-same m (base + 1 + k) (getD words k 0) 0 (omega (arith, w .full)))
-
-pub written : (m after words : List ℕ) (i n k : ℕ) → keyWords ≤ k → Writing (set m (entryWords * i) n) after words (entryWords * i) n k → Stored m after words n
-written m after words i n k all w =
+-- the number, and then the key
+pub written : (m after words : List ℕ) (i n : ℕ) → entryWords * i + entryWords ≤ length m
+    → Copied (set m (entryWords * i) n) after words (entryWords * i + 1) keyWords → Stored m after words n
+written m after words i n room c =
     record {
       place = i;
-      number = w .number;
-      words = λ j h. w .key j (omega arith);
-      others = λ j o. w .others j o ∙ getD-set-other m (entryWords * i) j n 0 (out j o);
-      full = w .full ∙ length-set m (entryWords * i) n;
+      number = c .others (entryWords * i) (inl (omega arith)) ∙ getD-set-same m (entryWords * i) n 0 (omega arith);
+      words = c .copy;
+      others = out;
+      full = c .full ∙ length-set m (entryWords * i) n;
     }
   where
-    out : (j : ℕ) → (j < entryWords * i) ⊎ (entryWords * i + entryWords ≤ j) → j ≡ entryWords * i → ⊥
-    out j (inl a) e = omega arith
-    out j (inr a) e = omega arith
+    out : (j : ℕ) → (j < entryWords * i) ⊎ (entryWords * i + entryWords ≤ j) → getD after j 0 ≡ getD m j 0
+    out j (inl a) = c .others j (inl (omega arith)) ∙ getD-set-other m (entryWords * i) j n 0 (λ e. omega arith)
+    out j (inr a) = c .others j (inr (omega arith)) ∙ getD-set-other m (entryWords * i) j n 0 (λ e. omega arith)
 
 pub found-by : {cache key other : List ℕ} {n : ℕ} → key ≡ other → Found cache key n → Found cache other n
 found-by {cache} {n = n} e = subst (λ (k : List ℕ). Found cache k n) e

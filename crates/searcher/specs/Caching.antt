@@ -32,10 +32,11 @@ standingOf false true = 1
 standingOf true false = 2
 standingOf true true = 3
 
--- a key: the rows left, how the rule stands, and the numbers of the state record; and what makes it so many words
+-- a key: the rows left, how the rule stands, and the numbers of the state record
 unfoldable pub keyOf : (left : ℕ) → Run → List ℕ
 keyOf left run = left ∷ standingOf (run .status .broken) (run .status .seen) ∷ stateNumbers (run .state)
 
+-- what the code can make a key of: the rows left fit a word, and the record's arrays have their lengths
 abbrev pub Keyed : (left : ℕ) → Run → Type 0
 Keyed left run = (left ≤ 8) × Shaped (run .state)
 
@@ -70,7 +71,7 @@ module _ (file words nodes entries calls : List ℕ) (plan : Plan) where
   abbrev pub NoneBreaks : (n left : ℕ) → Run → Type 0
   NoneBreaks n left run = (g : Planned file words nodes entries calls plan) → ruledOn n (breaksIn g run) (listsOf (plan .count) left) ≡ held n
 
-  -- the i-th entry is for a run and the rows left, and its number is that of those lists
+  -- the i-th entry is for a run and the rows left: its number is that of those lists, and none of them breaks the rule
   pub record Stands (cache : List ℕ) (i : ℕ) : Type 0 where
     pub left : ℕ
     pub run : Run
@@ -78,6 +79,6 @@ module _ (file words nodes entries calls : List ℕ) (plan : Plan) where
     pub key : KeyAt cache i (keyOf left run)
     pub none : NoneBreaks (numberAt cache i) left run
 
-  -- every entry that is not empty does so
+  -- every entry that is not empty stands for such lists
   abbrev pub Sound : List ℕ → Type 0
   Sound cache = (i : ℕ) → entryWords * i + entryWords ≤ length cache → (numberAt cache i ≡ 0 → ⊥) → Stands cache i

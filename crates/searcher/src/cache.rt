@@ -1,5 +1,5 @@
 // The cache of a search: the positions from which it has tried all lists of so many rows and found none that breaks the rule, each
-// with the number of those lists. An entry is that number, 0 where the entry is empty, and then a key. For our own crates only.
+// with the number of those lists. An entry is that number, 0 where the entry is empty, and then a key.
 use crate::Position;
 use crate::Status;
 use rules::State;
@@ -11,7 +11,7 @@ ghost use lib.ListN.{length};
 ghost use Rattle.searcher.specs.Searching.{runOf};
 ghost use Rattle.searcher.specs.Caching.{entryWords, pairs, standingOf, keyOf, Keyed, KeyAt, Found, Stored, StoredOrNot};
 
-// The words of a state record. Where records have more, this number changes, and here nothing else.
+// The words of a state record (`state_words`).
 const RECORD: usize = 26;
 
 // A key has two words before those of the record: the rows left, and how the rule stands.
@@ -23,7 +23,7 @@ const PAIRS: usize = 128;
 
 pub const WORDS: usize = 2 * PAIRS * ENTRY;
 
-// Where the entry for a position is or would be: one of a pair. And its number of lists, 0 where it is not there.
+// The pair of entries for a position, and the number in the position's own entry, 0 where the pair does not have it.
 pub struct Slot {
     pub pair: usize,
     pub number: u32,
@@ -60,7 +60,7 @@ fn key_of(position: Position, variables: &[u32; 16], balances: &[u32; 8], left: 
     key[1] = standing(position.status);
     let mut i = 0;
     while i < RECORD {
-        key[i + 2] = words[i];
+        key[2 + i] = words[i];
         i += 1;
     }
     key
@@ -74,7 +74,7 @@ fn mixed(a: u32, b: u32, c: u32, d: u32) -> u64 {
     (folded(a, b) as u64) * 0x6c07_8965 + (folded(c, d) as u64) * 0x5bd1_e995
 }
 
-// The pair of entries for a key. Any pair would do, so the contract says no more; few keys of a search share one.
+// The pair of entries for a key. Any pair would do, so the contract says no more: the hash only spreads keys over the pairs.
 fn pair_of(key: &[u32; KEY]) -> usize
     ensures { λ r. ⌜ r < pairs ⌝ }
 {
@@ -89,7 +89,7 @@ fn pair_of(key: &[u32; KEY]) -> usize
     (x * 0x9e37_79b1 / 0x100_0000) as usize % PAIRS
 }
 
-// Whether the i-th entry has this key. All its words are compared: going on costs less than a branch that cannot be foretold.
+// Whether the i-th entry has this key. All its words are compared: going on costs less than a branch that is hard to predict.
 fn has_key(cache: &[u32], i: usize, key: &[u32; KEY]) -> bool
     requires { ⌜ entryWords * i + entryWords ≤ length (now cache) ⌝ }
     ensures { λ r. ⌜ (r ≡ true → KeyAt (now (cache .entry)) i (now (key .entry))) ⌝ }
@@ -151,8 +151,8 @@ fn write_at(cache: &mut [u32], i: usize, key: &[u32; KEY], number: u32)
     }
 }
 
-// Whether the lists of so many rows, out of `count`, are kept: 8 of one row, or 16 of more. Trying fewer takes no longer than looking
-// them up.
+// Whether the lists of so many rows, out of `count`, are kept: where there are 8 or more of one row, or 16 or more of several.
+// Trying fewer takes no longer than looking them up.
 pub fn is_kept(count: u8, left: usize) -> bool {
     match left {
         0 => false,
@@ -164,7 +164,7 @@ pub fn is_kept(count: u8, left: usize) -> bool {
 }
 
 // The slot for the lists of so many rows from a position on. Where it has a number, all of them were tried and none breaks the rule.
-// A pair that is not there is for lists that are not kept.
+// Lists that are not kept get the pair after the last one, into which `store` writes nothing.
 pub fn lookup(
     cache: &[u32],
     position: Position,
@@ -189,7 +189,7 @@ pub fn lookup(
     Slot { pair, number }
 }
 
-// Writes the number of those lists into the pair, over the smaller number there.
+// Writes the entry for those lists into the pair, over the one for fewer lists; nothing where the cache has no such pair.
 pub fn store(
     cache: &mut [u32],
     pair: usize,

@@ -1,5 +1,5 @@
 // Judging a rule: the search over lists of call rows. It stands over the runner's calls and uses only their contracts.
-pub mod cache;
+mod cache;
 pub mod entries;
 pub mod interface;
 pub mod judging;

@@ -207,7 +207,7 @@ fn extend(
     f
 }
 
-// The same, row by row.
+// The same where rows are left, row by row; the cache is asked only from the next row on.
 fn extend_each(
     file: &[u8],
     words: &[u32],
@@ -317,7 +317,7 @@ fn extend_by(
     with_row(f, at, row)
 }
 
-// The lists by length.
+// Tries the lists by length, up to the depth, from the state that the start led to.
 fn by_length(
     file: &[u8],
     words: &[u32],
@@ -370,8 +370,8 @@ fn by_length(
     unshown(Verdict::Held(n))
 }
 
-// Tries the lists by length, up to the depth, from the state that the start led to. A search in which nothing would be kept has a
-// cache without entries.
+// The same with a cache of its own, in which every entry is empty. Where nothing would be kept it has no entries, and there is
+// nothing to clear.
 pub fn search(
     file: &[u8],
     words: &[u32],

@@ -1,25 +1,22 @@
 -- The number, and then the key's words one after another.
-use Prim.Native.Nat.{_*_, _-_, _≤_}
-use mathlib.Core.Path.{_∙_}
+use Prim.Native.Nat.{_+_, _*_, _-_, _≤_}
+use mathlib.Core.Path.{_≡_, _∙_}
 use native.Mathlib.Omega.{arith}
 use lib.ListN.{set, length-set}
-use lib.Seq.{getD-set-same}
 use denote.Ref.{now}
 use Rattle.searcher.specs.Caching.{keyWords, entryWords}
-use Rattle.searcher.proofs.Caching.{Writing, writing-first, writing-next, written}
+use Rattle.searcher.proofs.Caching.{Copied, copied-none, copied-next, written}
 use Rattle.searcher.proofs.cache.write_at.Statement.{statement}
 use Rattle.searcher.proofs.cache.write_at.Tie as tie
 
 abbrev Inv-loop : tie.InvT-loop
-Inv-loop cache₀ i key number at k₀ cache k = (k ≤ keyWords) × Writing cache₀ cache key at number k
+Inv-loop cache₀ i key number at k₀ cache k = (k ≤ keyWords) × Copied cache₀ cache key (at + 1) k
 
 abbrev μ-loop : tie.MeasureT-loop
 μ-loop cache₀ i key number at k₀ cache k = keyWords - k
 
 loop-holds : tie.Need-loop-holds Inv-loop μ-loop
-loop-holds c =
-    let a = c .args in
-    (omega arith, writing-first _ _ _ _ (getD-set-same (now (a .cache)) (entryWords * a .i) (a .number) 0 (omega (arith, c .pre))))
+loop-holds c = (omega arith, copied-none _ _ _)
 
 slice-write-cache-2 : tie.Need-slice-write-cache-2 Inv-loop μ-loop
 slice-write-cache-2 c =
@@ -33,8 +30,8 @@ loop-again c =
     let s = h .before in
     let a = s .args in (
       omega arith,
-      writing-next (set (now (a .cache)) (entryWords * a .i) (a .number)) (h .loop .cache) (now (a .key)) (entryWords * a .i) (a .number) (h .loop .k)
-          (omega (arith, c .before .loop-test .taken)) (omega (arith, length-set (now (a .cache)) (entryWords * a .i) (a .number), s .pre)) (h .loop .inv .1),
+      copied-next (set (now (a .cache)) (entryWords * a .i) (a .number)) (h .loop .cache) (now (a .key)) (entryWords * a .i + 1) (h .loop .k)
+          (omega (arith, c .before .loop-test .taken, length-set (now (a .cache)) (entryWords * a .i) (a .number), s .pre)) (h .loop .inv .1),
     )
 
 same-length : tie.Need-same-length Inv-loop μ-loop
@@ -47,7 +44,8 @@ returns : tie.Need-returns Inv-loop μ-loop
 returns c =
     let h = c .before in
     let a = h .before .args in
-    written (now (a .cache)) (h .loop .cache) (now (a .key)) (a .i) (a .number) (h .loop .k) (omega (arith, c .loop-test .left)) (h .loop .inv .1)
+    let all : keyWords ≡ h .loop .k = omega (arith, c .loop-test .left, h .loop .inv .0) in
+    written (now (a .cache)) (h .loop .cache) (now (a .key)) (a .i) (a .number) (h .before .pre) (rw all (h .loop .inv .1))
 
 pub write-at-spec : {M : Type 1} → statement M
 write-at-spec =
