@@ -11,7 +11,7 @@ ghost use lib.ListN.{length};
 ghost use Rattle.searcher.specs.Searching.{runOf};
 ghost use Rattle.searcher.specs.Caching.{entryWords, pairs, standingOf, keyOf, Keyed, KeyAt, Found, Stored, StoredOrNot};
 
-// The words of a state record (`state_words`).
+// The words of a state record (`state_words`). With more of them this number grows, with `recordWords`, and `key_of` fills in more.
 const RECORD: usize = 26;
 
 // A key has two words before those of the record: the rows left, and how the rule stands.
@@ -74,7 +74,8 @@ fn mixed(a: u32, b: u32, c: u32, d: u32) -> u64 {
     (folded(a, b) as u64) * 0x6c07_8965 + (folded(c, d) as u64) * 0x5bd1_e995
 }
 
-// The pair of entries for a key. Any pair would do, so the contract says no more: the hash only spreads keys over the pairs.
+// The pair of entries for a key. Any pair would do, so the contract says no more: the hash only spreads keys over the pairs. It takes
+// four words at a time, and what is left of a key after that would have no part in it.
 fn pair_of(key: &[u32; KEY]) -> usize
     ensures { λ r. ⌜ r < pairs ⌝ }
 {
@@ -152,7 +153,7 @@ fn write_at(cache: &mut [u32], i: usize, key: &[u32; KEY], number: u32)
 }
 
 // Whether the lists of so many rows, out of `count`, are kept: where there are 8 or more of one row, or 16 or more of several.
-// Trying fewer takes no longer than looking them up.
+// Looking up fewer costs too much of the time of trying them, where no position is met again.
 pub fn is_kept(count: u8, left: usize) -> bool {
     match left {
         0 => false,
