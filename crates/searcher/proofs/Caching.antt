@@ -170,13 +170,16 @@ module _ (file words nodes table calls : List ℕ) (plan : Plan) where
   stored-sound left run shaped (inl e) none sound = subst SoundCache (sym e) sound
   stored-sound {before} {after} {n} left run shaped (inr w) none sound = λ j less some. go j less some (decLt j (w .place)) (decLt (w .place) j)
     where
+      -- none of its words is one that was written
+      elsewhere : (j : ℕ) → entryWords * j + entryWords ≤ length after → (numberAt after j ≡ 0 → ⊥)
+          → ((m : ℕ) → entryWords * j ≤ m → m < entryWords * j + entryWords → (m < entryWords * w .place) ⊎ (entryWords * w .place + entryWords ≤ m)) → Entry after j
+      elsewhere j less some out =
+          let e : numberAt after j ≡ numberAt before j = w .others (entryWords * j) (out _ (omega arith) (omega arith)) in
+          kept e (λ k l. w .others (entryWords * j + 1 + k) (out _ (omega arith) (omega arith))) (sound j (omega (arith, w .full)) (λ z. some (e ∙ z)))
+
       go : (j : ℕ) → entryWords * j + entryWords ≤ length after → (numberAt after j ≡ 0 → ⊥) → Dec (j < w .place) → Dec (w .place < j) → Entry after j
-      go j less some (yes h) d =
-          let e : numberAt after j ≡ numberAt before j = w .others (entryWords * j) (inl (omega arith)) in
-          kept e (λ k l. w .others (entryWords * j + 1 + k) (inl (omega arith))) (sound j (omega (arith, w .full)) (λ z. some (e ∙ z)))
-      go j less some (no h) (yes d) =
-          let e : numberAt after j ≡ numberAt before j = w .others (entryWords * j) (inr (omega arith)) in
-          kept e (λ k l. w .others (entryWords * j + 1 + k) (inr (omega arith))) (sound j (omega (arith, w .full)) (λ z. some (e ∙ z)))
+      go j less some (yes h) d = elsewhere j less some (λ m a b. inl (omega arith))
+      go j less some (no h) (yes d) = elsewhere j less some (λ m a b. inr (omega arith))
       go j less some (no h) (no d) =
           let same : w .place ≡ j = omega arith in
           subst (Entry after) same (record { left = left; run = run; shaped = shaped; key = w .words; none = λ g. rw (w .number) (none g) })

@@ -1,5 +1,6 @@
 // The cache of a search: the positions from which it has tried all lists of so many rows and found none that breaks the rule, each
-// with the number of those lists. An entry is that number, 0 where the entry is empty, and then a key.
+// with the number of those lists. An entry is that number, 0 where the entry is empty, and then a key. For the search alone: a caller
+// has to see that the words of a key can be made (`Keyed`), and that an entry is there.
 use crate::Position;
 use crate::Status;
 use rules::State;
@@ -153,7 +154,8 @@ fn write_at(cache: &mut [u32], i: usize, key: &[u32; KEY], number: u32)
 }
 
 // Whether the lists of so many rows, out of `count`, are kept: where there are 8 or more of one row, or 16 or more of several.
-// Looking up fewer costs too much of the time of trying them, where no position is met again.
+// Looking up fewer costs too much of the time of trying them, where no position is met again. Any answer would do, so there is no
+// contract.
 pub fn is_kept(count: u8, left: usize) -> bool {
     match left {
         0 => false,

@@ -1,16 +1,18 @@
 -- In a cache of zeros every entry is empty.
-use Prim.Native.Nat.{_*_}
+use Prim.Native.Nat.{ℕ, _*_}
+use mathlib.Core.List.{List}
 use borrow.Author.Needs.{needs}
-use Rattle.searcher.specs.Caching.{entryWords, pairs}
+use lib.ListN.{replicate}
+use Rattle.searcher.specs.declared.Plan.{Plan}
+use Rattle.searcher.specs.Caching.{entryWords, pairs, Sound}
 use Rattle.searcher.proofs.Caching.{empty-sound}
 use Rattle.searcher.proofs.search.search.Statement.{statement}
 use Rattle.searcher.proofs.search.search.Tie as tie
 
-by-length-requires : tie.Need-by-length-requires
-by-length-requires c κs = let p = c .before .before .before .before .before .pre in (p .0, p .1, p .2, empty-sound _ _ _ _ _ _ (entryWords * (2 * pairs)))
-
-by-length-requires-2 : tie.Need-by-length-requires-2
-by-length-requires-2 c κs = let p = c .before .before .before .before .before .pre in (p .0, p .1, p .2, empty-sound _ _ _ _ _ _ 1)
+-- what `by_length` asks, with a cache of n words
+begun : {A B C : Type 0} {file words nodes table calls : List ℕ} {plan : Plan} (n : ℕ) → A × B × C
+    → A × B × C × Sound file words nodes table calls plan (replicate n 0)
+begun n p = (p .0, p .1, p .2, empty-sound _ _ _ _ _ _ n)
 
 pub search-spec : {M : Type 1} → statement M
 search-spec =
@@ -18,8 +20,8 @@ search-spec =
     (tie.spec
     (λ c κs. search needs)
     (λ c. search needs)
-    by-length-requires
+    (λ c κs. begun (entryWords * (2 * pairs)) (c .before .before .before .before .before .pre))
     (λ c. c .before .by-length .ensures)
     (λ c. search needs)
-    by-length-requires-2
+    (λ c κs. begun 1 (c .before .before .before .before .before .pre))
     (λ c. c .before .by-length2 .ensures))
