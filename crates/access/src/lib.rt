@@ -1,12 +1,14 @@
 // What the layers above need of a file whose tree has been read, so that none of them reads it again. This serves our own crates
 // only: the functions ask that the tree was read, and what they answer is an equation over that tree.
+#![tactic(auto)]
+
 pub mod entries;
 pub mod fields;
 pub mod places;
 pub mod transitions;
 
 // Children of one kind in a row: where the first begins, how many they are, and where the last ends.
-#[derive(Drop)]
+#[derive(Clone, Copy)]
 pub struct Group {
     pub at: usize,
     pub count: usize,
@@ -14,7 +16,7 @@ pub struct Group {
 }
 
 // Where the parts of a file begin.
-#[derive(Drop)]
+#[derive(Clone, Copy)]
 pub struct Layout {
     pub initial: usize,
     pub fallback: usize,
@@ -24,7 +26,7 @@ pub struct Layout {
 }
 
 // What is found of a name: no transition bears it, none of those that do leaves the state, or where the first that does begins.
-#[derive(Drop)]
+#[derive(Clone, Copy)]
 pub enum Found {
     Unknown,
     Elsewhere,
@@ -32,14 +34,14 @@ pub enum Found {
 }
 
 // Where the first transition begins that repeats an earlier one's name and origin.
-#[derive(Drop)]
+#[derive(Clone, Copy)]
 pub enum Repeat {
     Nowhere,
     At(usize),
 }
 
 // A rule's type, and its p and q.
-#[derive(Drop)]
+#[derive(Clone, Copy)]
 pub struct Head {
     pub kind: usize,
     pub p: u8,

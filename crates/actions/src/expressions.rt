@@ -30,7 +30,7 @@ pub fn evaluate<'a>(
 }
 
 // The value as one number, which goes from call to call in a register.
-#[cycle(coded_operand)]
+#[cycle(operand)]
 fn coded<'a>(
     s: &[u8],
     variables: &'a [u32; 16],
@@ -61,7 +61,7 @@ fn coded<'a>(
 }
 
 // The operand of an operation. What needs no evaluation of parts is done here without a call of `coded`.
-#[cycle(coded_operand)]
+#[cycle(operand)]
 fn operand<'a>(
     s: &[u8],
     variables: &'a [u32; 16],

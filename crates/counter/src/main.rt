@@ -1,4 +1,6 @@
 // Runs document 01's calls of the counter agreement and prints what they answer.
+#![tactic(auto)]
+
 ghost use Rattle.std.specs.Prelude.{◌≡◌, [], ◌∷◌};
 ghost use Rattle.rules.specs.Calling.{run_list};
 ghost use Rattle.rules.specs.Counter.{counter as counter_of, named as named_of};
@@ -20,7 +22,7 @@ const COUNTER: [u8; 176] = *b"\
 \x08\x00\x04\x00\x02\x00\x01\x01";
 
 // The outcomes of a start and of two calls after it.
-#[derive(Drop)]
+#[derive(Clone, Copy)]
 struct Ran {
     started: Outcome,
     first: Outcome,

@@ -10,7 +10,7 @@ use crate::writing::{write_condition, write_one};
 use crate::{Ends, Next};
 use records::bytes::u16_at;
 
-#[cycle(expand_block_expand_else_expand_for_expand_part_expand_statement)]
+#[cycle(expand)]
 pub fn expand_statement(
     s: &[u8],
     at: usize,
@@ -44,7 +44,7 @@ pub fn expand_statement(
 }
 
 // An if or a while whose condition stands at the offset `test`: the part s, if it is carried out, goes on to `back`.
-#[cycle(expand_block_expand_else_expand_for_expand_part_expand_statement)]
+#[cycle(expand)]
 fn expand_part(
     s: &[u8],
     at: usize,
@@ -68,7 +68,7 @@ fn expand_part(
 }
 
 // An if-else, n bytes long.
-#[cycle(expand_block_expand_else_expand_for_expand_part_expand_statement)]
+#[cycle(expand)]
 fn expand_else(
     s: &[u8],
     n: usize,
@@ -99,7 +99,7 @@ fn expand_else(
 }
 
 // A for, n bytes long.
-#[cycle(expand_block_expand_else_expand_for_expand_part_expand_statement)]
+#[cycle(expand)]
 fn expand_for(
     s: &[u8],
     n: usize,
@@ -127,7 +127,7 @@ fn expand_for(
 }
 
 // A block's statements, which are all of s.
-#[cycle(expand_block_expand_else_expand_for_expand_part_expand_statement)]
+#[cycle(expand)]
 fn expand_block(s: &[u8], at: usize, ends: Ends, node: u32, words: &mut [u32], i: usize) -> Next
     requires { BlockExpandable at node i s.now words.old }
     ensures { BlockExpands at ends node i s.now words.old words.new result }

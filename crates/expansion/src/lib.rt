@@ -1,4 +1,6 @@
 // Expanding a file: its steps are written into lent words, five words each.
+#![tactic(auto)]
+
 pub mod comparing;
 pub mod writing;
 

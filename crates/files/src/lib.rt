@@ -1,4 +1,6 @@
 // A whole file: the check of its bytes, refusals 1 to 5 with their places, and the number of steps of its expansion.
+#![tactic(auto)]
+
 mod agreement;
 mod fields;
 mod groups;

@@ -1,4 +1,6 @@
 // Reading a file: its refusal, or its step count.
+#![tactic(auto)]
+
 ghost use Rattle.std.specs.Prelude.{◌≡◌, ◌^◌, ◌<◌};
 ghost use Rattle.rules.specs.Syntax.{Agreement};
 ghost use Rattle.rules.specs.Basics.{sum as sum_of};

@@ -8,7 +8,7 @@ use crate::Checked;
 use crate::answers::{close, counted};
 use crate::bytes::{record_len, u16_at};
 
-#[cycle(check_body_check_expression_then_expression)]
+#[cycle(expression)]
 pub fn check_expression(s: &[u8], at: usize, levels: usize, vars: usize, in_rule: bool) -> Checked
     requires { at + length s.now < 2 ^ 32 }
     ensures { (start : ℕ) → result ≡ outcome no_steps (expression vars in_rule levels start at s.now) }
@@ -27,7 +27,7 @@ pub fn check_expression(s: &[u8], at: usize, levels: usize, vars: usize, in_rule
     )
 }
 
-#[cycle(check_body_check_expression_then_expression)]
+#[cycle(expression)]
 fn check_body(
     b: &[u8],
     kind: usize,
@@ -96,7 +96,7 @@ fn check_index(b: &[u8], at: usize, least: usize, bound: usize) -> Checked
 }
 
 // c was read from s at `at`; an expression follows it.
-#[cycle(check_body_check_expression_then_expression)]
+#[cycle(expression)]
 pub fn then_expression(
     s: &[u8],
     at: usize,

@@ -11,7 +11,7 @@ use crate::bytes::{record_len, u16_at};
 use crate::expressions::{check_expression, then_expression};
 use crate::sets::{check_loop_set, check_set, then_loop_set};
 
-#[cycle(check_block_check_body_check_if_check_statement_then_statement)]
+#[cycle(statement)]
 pub fn check_statement(s: &[u8], at: usize, levels: usize, vars: usize) -> Checked
     requires { at + length s.now < 2 ^ 32 }
     ensures { (start : ℕ) → result ≡ outcome step_count (statement vars levels start at s.now) }
@@ -27,7 +27,7 @@ pub fn check_statement(s: &[u8], at: usize, levels: usize, vars: usize) -> Check
     close(at + n, check_body(&s[4..n], kind, at, levels - 1, vars))
 }
 
-#[cycle(check_block_check_body_check_if_check_statement_then_statement)]
+#[cycle(statement)]
 fn check_body(b: &[u8], kind: usize, at: usize, levels: usize, vars: usize) -> Checked
     requires { at + 4 + length b.now < 2 ^ 32 }
     ensures { result ≡ outcome step_count (statement_body vars (expression vars false levels) (loop_set vars levels) (statement vars levels) kind at (at + 4) b.now) }
@@ -47,7 +47,7 @@ fn check_body(b: &[u8], kind: usize, at: usize, levels: usize, vars: usize) -> C
 }
 
 // A condition and a statement: an if, a while, and the first part of an if-else.
-#[cycle(check_block_check_body_check_if_check_statement_then_statement)]
+#[cycle(statement)]
 fn check_if(s: &[u8], at: usize, levels: usize, vars: usize) -> Checked
     requires { at + length s.now < 2 ^ 32 }
     ensures { (start : ℕ) → result ≡ onward step_count (statement vars levels) start at s.now (outcome two (expression vars false levels start at s.now)) }
@@ -56,7 +56,7 @@ fn check_if(s: &[u8], at: usize, levels: usize, vars: usize) -> Checked
 }
 
 // One or more statements up to the end of s.
-#[cycle(check_block_check_body_check_if_check_statement_then_statement)]
+#[cycle(statement)]
 fn check_block(s: &[u8], at: usize, levels: usize, vars: usize) -> Checked
     requires { at + length s.now < 2 ^ 32 }
     ensures { (start : ℕ) → result ≡ outcome block_count (statements (length s.now) (statement vars levels) start at s.now) }
@@ -80,7 +80,7 @@ fn check_block(s: &[u8], at: usize, levels: usize, vars: usize) -> Checked
 }
 
 // c was read from s at `at`; a statement follows it.
-#[cycle(check_block_check_body_check_if_check_statement_then_statement)]
+#[cycle(statement)]
 pub fn then_statement(s: &[u8], at: usize, c: Checked, levels: usize, vars: usize) -> Checked
     requires { (at + length s.now < 2 ^ 32) × Within at (length s.now) c }
     ensures { (start : ℕ) → result ≡ onward step_count (statement vars levels) start at s.now c }

@@ -1,5 +1,7 @@
 // Prints the report on the file that stands on standard input. A file has at most 32,768 bytes, so that one byte more than that
 // tells a file that is too long.
+#![tactic(auto)]
+
 use reporter::report;
 
 fn main() {

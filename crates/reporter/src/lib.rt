@@ -1,4 +1,6 @@
 // The report on a file, as text.
+#![tactic(auto)]
+
 mod lines;
 mod text;
 
@@ -19,7 +21,7 @@ use searcher::search::is_completed;
 use searcher::verdicts::verdict;
 
 // A report: the first bytes, as many as its length; then zeros.
-#[derive(Drop)]
+#[derive(Clone, Copy)]
 pub struct Page {
     pub bytes: [u8; 1024],
     pub length: usize,

@@ -22,7 +22,7 @@ const PAIRS: usize = 128;
 pub const WORDS: usize = 2 * PAIRS * ENTRY;
 
 // The pair of entries for a position, and the number in the position's own entry, 0 where the pair does not have it.
-#[derive(Drop)]
+#[derive(Clone, Copy)]
 pub struct Slot {
     pub pair: usize,
     pub number: u32,

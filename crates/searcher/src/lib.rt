@@ -1,4 +1,6 @@
 // Judging a rule: the search over lists of call rows. It stands over the runner's calls and uses only their contracts.
+#![tactic(auto)]
+
 mod cache;
 pub mod entries;
 pub mod interface;
@@ -10,7 +12,7 @@ pub mod verdicts;
 use runner::Prepared;
 
 // A rule: its type, its p and q, and for type 1 where its expression begins.
-#[derive(Drop)]
+#[derive(Clone, Copy)]
 pub struct Judge {
     pub kind: usize,
     pub p: u8,
@@ -19,7 +21,7 @@ pub struct Judge {
 }
 
 // How a rule stands after some calls: whether it is broken, and whether a completed q was among them.
-#[derive(Drop)]
+#[derive(Clone, Copy)]
 pub struct Status {
     pub broken: bool,
     pub seen: bool,
@@ -27,7 +29,7 @@ pub struct Status {
 
 // Where a search stands after some calls: the numbers of the state record that they led to, whose arrays are lent, and how the rule
 // stands.
-#[derive(Drop)]
+#[derive(Clone, Copy)]
 pub struct Position {
     pub state: u32,
     pub own: u32,
@@ -35,7 +37,7 @@ pub struct Position {
 }
 
 // What stays the same in a search.
-#[derive(Drop)]
+#[derive(Clone, Copy)]
 pub struct Plan {
     pub prepared: Prepared,
     pub judge: Judge,

@@ -134,7 +134,7 @@ fn called(
 
 // Tries every list that begins with the `at` rows that led to this position and has `left` more, after `tried` others. Where it
 // shows a list, those rows are zeros. Lists that the cache knows of are not tried again.
-#[cycle(extend_extend_by_extend_each)]
+#[cycle(extend)]
 fn extend(
     file: &[u8],
     words: &[u32],
@@ -187,7 +187,7 @@ fn extend(
 }
 
 // The same where rows are left, row by row; the cache is asked only from the next row on.
-#[cycle(extend_extend_by_extend_each)]
+#[cycle(extend)]
 fn extend_each(
     file: &[u8],
     words: &[u32],
@@ -241,7 +241,7 @@ fn extend_each(
 }
 
 // Tries every list that begins with the `at` rows that led to this position and then this row, and has `left` more after it.
-#[cycle(extend_extend_by_extend_each)]
+#[cycle(extend)]
 fn extend_by(
     file: &[u8],
     words: &[u32],

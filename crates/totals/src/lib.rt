@@ -1,1 +1,2 @@
 // No code: the proofs of this crate show what starts and calls never change.
+#![tactic(auto)]

@@ -1,0 +1,8 @@
+-- By the definition.
+use borrow.Author.Rules.{rules}
+use Rattle.rules.specs.Calling.{refused_start}
+use Rattle.machine.proofs.outcomes.refused_start.Goals as goal
+
+pub returns : goal.returns
+unfolding refused_start
+returns c = rw c.zero_state-state.ensures

@@ -1,0 +1,14 @@
+-- By how the run stands.
+use Rattle.rules.specs.Calling.{started, state_after}
+use Rattle.machine.proofs.Calls.{flow-end}
+use Rattle.machine.proofs.Codes.{stopped_code, done-code}
+use borrow.Author.Rules.{rules}
+use Rattle.machine.proofs.outcomes.started.Goals as goal
+
+pub returns-then-p-gt1 : goal.returns-then-p-gt1
+unfolding started
+returns-then-p-gt1 c = λ ls x e. rw (flow-end _ x _ e, stopped_code _ c.if-p-gt1.true, c.refused_start.ensures, c.refusal.ensures)
+
+pub returns : goal.returns
+unfolding started state_after
+returns c = λ ls x e. rw (flow-end _ x _ e, done-code _ c.if-p-gt1.false)

@@ -1,0 +1,8 @@
+-- By the definition.
+use Rattle.rules.specs.Calling.{refused_call}
+use borrow.Author.Rules.{rules}
+use Rattle.machine.proofs.outcomes.unmoved.Goals as goal
+
+pub returns : goal.returns
+unfolding refused_call
+returns c = λ vs bs. rw c.refusal.ensures

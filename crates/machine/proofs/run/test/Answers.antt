@@ -1,0 +1,13 @@
+-- By the value: it is there, or it failed.
+use Rattle.machine.specs.Flows.{tested_of, test_value}
+use Rattle.rules.specs.Running.{or_stop}
+use borrow.Author.Rules.{rules}
+use Rattle.machine.proofs.run.test.Goals as goal
+
+pub returns-in-Is : goal.returns-in-Is
+unfolding test_value or_stop tested_of
+returns-in-Is c = λ vs ls bs. rw (c.in-Is.is, c.is_true.ensures)
+
+pub returns-in-Failed : goal.returns-in-Failed
+unfolding test_value or_stop tested_of
+returns-in-Failed c = λ vs ls bs. rw c.in-Failed.is

@@ -1,0 +1,16 @@
+use Rattle.rules.specs.Basics.{sum}
+use Rattle.machine.proofs.Sums.{sum-from, sum-none}
+use Prim.Native.Nat.{◌+◌, ◌-◌, ◌*◌, ◌≤◌}
+use mathlib.Core.Path.{◌≡◌}
+use lib.ListN.{drop}
+use borrow.Author.Rules.{rules}
+use borrow.Kind.Array.{e_int, good_length}
+use mir.Syntax.{w32}
+use native.Mathlib.Omega.{arith}
+use Rattle.machine.proofs.state.sum.Given as goal
+
+abbrev pub invariant-loop-i : goal.invariant-loop-i
+invariant-loop-i l = (l.i ≤ 8) × (l.n ≤ l.i * 4_294_967_295) × (l.n + sum (drop l.i l.a) ≡ sum l.a)
+
+abbrev pub decreases-loop-i : goal.decreases-loop-i
+decreases-loop-i l = 8 - l.i
