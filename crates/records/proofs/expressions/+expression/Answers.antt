@@ -1,3 +1,7 @@
+use mathlib.Core.Path.{◌≡◌}
+use Prim.Native.Nat.{ℕ, ◌+◌, ◌≤◌}
+use Rattle.records.specs.declared.Checked.{Checked}
+use Rattle.records.specs.declared.Checked.TheVariants.{Ok}
 use Prim.Native.Nat.{ℕ, ◌+◌}
 use mathlib.Core.Path.{sym, ◌∙◌}
 use mathlib.Core.Bool.{◌&&◌}
@@ -95,7 +99,7 @@ check_body-returns-in-81 t c =
 pub check_body-returns-in_default : goal.check_body-returns-in_default
 check_body-returns-in_default t c =
     let a = c.args in
-    let r = c.in_default-own.rest in
+    let r = c.in_default.in_default-own.rest in
     sym (other-is a.vars a.in_rule a.levels a.at a.b.now a.kind r.0.0.0.0.0.0.1 r.0.0.0.0.0.1 r.0.0.0.0.1 r.0.0.0.1 r.0.0.1 r.0.1 r.1)
 
 -- `check_expression`
@@ -129,27 +133,22 @@ check_expression-returns t c = λ start.
 -- `then_expression`
 
 -- where c ended
-fits :
-    (c : goal.then_expression-In-Ok) →
-    let a = c.args in
-    (a.at + c.in-Ok.steps ≤ c.in-Ok.m) × (c.in-Ok.m ≤ a.at + length a.s.now)
-fits c =
-    let b = c in
-    subst (Within b.args.at (length b.args.s.now)) c.in-Ok.is b.requires.1.1
+fits : (at n m steps : ℕ) (c : Checked) → c ≡ Ok m steps → Within at n c → (at + steps ≤ m) × (m ≤ at + n)
+fits at n m steps c e w = subst (Within at n) e w
 
 pub then_expression-overflow_sub-i : goal.then_expression-overflow_sub-i
-then_expression-overflow_sub-i t c = omega (arith, (fits c).0)
+then_expression-overflow_sub-i t c = omega (arith, (fits _ _ _ _ _ c.in-Ok.is c.requires.1).0)
 
 pub then_expression-slice_bounds-check_expression-count : goal.then_expression-slice_bounds-check_expression-count
-then_expression-slice_bounds-check_expression-count t c = omega (arith, (fits c).1)
+then_expression-slice_bounds-check_expression-count t c = omega (arith, (fits _ _ _ _ _ c.in-Ok.is c.requires.1).1)
 
 pub then_expression-slice_bounds-check_expression-start : goal.then_expression-slice_bounds-check_expression-start
-then_expression-slice_bounds-check_expression-start t c = omega (arith, (fits c).1)
+then_expression-slice_bounds-check_expression-start t c = omega (arith, (fits _ _ _ _ _ c.in-Ok.is c.requires.1).1)
 
 pub then_expression-check_expression-requires : goal.then_expression-check_expression-requires
 then_expression-check_expression-requires t c =
     let s = c.args.s.now in
-    (omega arith, omega (arith, (fits c.before).0, (fits c.before).1, from-length (c.in-Ok.m - c.args.at) s))
+    (omega arith, omega (arith, (fits _ _ _ _ _ c.in-Ok.is c.requires.1).0, (fits _ _ _ _ _ c.in-Ok.is c.requires.1).1, from-length (c.in-Ok.m - c.args.at) s))
 
 pub then_expression-returns-in-Refused : goal.then_expression-returns-in-Refused
 then_expression-returns-in-Refused t c = λ start. rw c.in-Refused.is
@@ -157,6 +156,6 @@ then_expression-returns-in-Refused t c = λ start. rw c.in-Refused.is
 pub then_expression-returns-in-Ok : goal.then_expression-returns-in-Ok
 then_expression-returns-in-Ok t c = λ start.
     let a = c.args in
-    let k = c.c-in-Ok-1 in
-    rw (k.given.1, c.counted.ensures, c.check_expression.ensures start)
-    (counts-more k.given.0.1.0 (expression a.vars a.in_rule a.levels start k.given.0.0 (from (k.given.0.0 - a.at) a.s.now)))
+    let k = c.in-Ok in
+    rw (k.is, c.counted.ensures, c.check_expression.ensures start)
+    (counts-more k.steps (expression a.vars a.in_rule a.levels start k.m (from (k.m - a.at) a.s.now)))

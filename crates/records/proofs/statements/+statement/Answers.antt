@@ -1,3 +1,7 @@
+use mathlib.Core.Path.{◌≡◌}
+use Prim.Native.Nat.{ℕ, ◌+◌, ◌≤◌}
+use Rattle.records.specs.declared.Checked.{Checked}
+use Rattle.records.specs.declared.Checked.TheVariants.{Ok}
 use Prim.Native.Nat.{ℕ, ◌+◌, ◌-◌, ◌≤◌}
 use mathlib.Core.Path.{sym, ◌∙◌}
 use native.Mathlib.Omega.{arith}
@@ -26,17 +30,6 @@ use Rattle.records.proofs.statements.+statement.Goals as goal
 
 -- `check_block`
 
--- the statement that was read
-one :
-    (c : goal.check_block-In-Ok) (start : ℕ) →
-    let l = c.before.before.before.before.before in
-    let a = l.args in
-    Read a.vars a.levels start (a.at + l.loop-k.i) (from l.loop-k.i a.s.now) c.in-Ok.m-1 c.in-Ok.k-1
-one c start =
-    let l = c in
-    let a = l.args in
-    statement-read a.vars a.levels start (a.at + l.loop-k.i) (from l.loop-k.i a.s.now) (sym c.in-Ok.is ∙ c.check_statement.ensures start)
-
 pub check_block-loop-k-init : goal.check_block-loop-k-init
 check_block-loop-k-init t c =
     let a = c.args in
@@ -56,18 +49,24 @@ check_block-returns-in-Refused t c =
     λ start. sym c.in-Refused.is ∙ c.check_statement.ensures start
 
 pub check_block-overflow_sub-i : goal.check_block-overflow_sub-i
-check_block-overflow_sub-i t c = omega (arith, (one c 0).low)
+check_block-overflow_sub-i t c =
+    let l = c in
+    let a = l.args in
+    let r = statement-read a.vars a.levels 0 (a.at + l.loop-k.i) (from l.loop-k.i a.s.now) (sym c.in-Ok.is ∙ c.check_statement.ensures 0) in
+    omega (arith, r.low)
 
 pub check_block-overflow_add-steps : goal.check_block-overflow_add-steps
 check_block-overflow_add-steps t c =
     let l = c in
     let a = l.args in
-    omega (arith, (one c 0).pays, (one c 0).high, l.loop-k.invariant.0, l.loop-k.invariant.1, from-length l.loop-k.i a.s.now)
+    let r = statement-read a.vars a.levels 0 (a.at + l.loop-k.i) (from l.loop-k.i a.s.now) (sym c.in-Ok.is ∙ c.check_statement.ensures 0) in
+    omega (arith, r.pays, r.high, l.loop-k.invariant.0, l.loop-k.invariant.1, from-length l.loop-k.i a.s.now)
 
 pub check_block-returns-then-s-i : goal.check_block-returns-then-s-i
 check_block-returns-then-s-i t c =
     let l = c in
     let a = l.args in
+    let r = statement-read a.vars a.levels 0 (a.at + l.loop-k.i) (from l.loop-k.i a.s.now) (sym c.in-Ok.is ∙ c.check_statement.ensures 0) in
     rest-ends a.vars a.levels a.at a.s.now l.loop-k.i l.loop-k.steps l.loop-k.invariant.2
     (λ start. sym c.in-Ok.is ∙ c.check_statement.ensures start)
     l.loop-k.invariant.0 c.if-s-i.true
@@ -76,14 +75,16 @@ pub check_block-loop-k-smaller : goal.check_block-loop-k-smaller
 check_block-loop-k-smaller t c =
     let l = c in
     let a = l.args in
-    omega (arith, (one c.before 0).low, c.if-s-i.false)
+    let r = statement-read a.vars a.levels 0 (a.at + l.loop-k.i) (from l.loop-k.i a.s.now) (sym c.in-Ok.is ∙ c.check_statement.ensures 0) in
+    omega (arith, r.low, c.if-s-i.false)
 
 pub check_block-loop-k-preserved : goal.check_block-loop-k-preserved
 check_block-loop-k-preserved t c =
     let l = c in
-    let a = l.args in (
+    let a = l.args in
+    let r = statement-read a.vars a.levels 0 (a.at + l.loop-k.i) (from l.loop-k.i a.s.now) (sym c.in-Ok.is ∙ c.check_statement.ensures 0) in (
       omega (arith, c.if-s-i.false),
-      omega (arith, (one c.before 0).pays, l.loop-k.invariant.1),
+      omega (arith, r.pays, l.loop-k.invariant.1),
       rest_goes a.vars a.levels a.at a.s.now l.loop-k.i l.loop-k.steps l.loop-k.invariant.2
           (λ start. sym c.in-Ok.is ∙ c.check_statement.ensures start)
           l.loop-k.invariant.0 c.if-s-i.false,
@@ -157,7 +158,7 @@ check_body-returns-in-36 t c =
 pub check_body-returns-in_default : goal.check_body-returns-in_default
 check_body-returns-in_default t c =
     let a = c.args in
-    let r = c.in_default-own.rest in
+    let r = c.in_default.in_default-own.rest in
     let f = r.0.0.0 in
     sym
     (other-is a.vars a.levels a.at (a.at + 4) a.b.now a.kind f.0.0.0.0.1 f.0.0.0.1 f.0.0.1 f.0.1 f.1
@@ -204,46 +205,41 @@ check_statement-returns t c = λ start.
 -- `then_statement`
 
 -- where c ended
-fits :
-    (c : goal.then_statement-In-Ok) →
-    let a = c.args in
-    (a.at + c.in-Ok.steps ≤ c.in-Ok.m) × (c.in-Ok.m ≤ a.at + length a.s.now)
-fits c =
-    let b = c in
-    subst (Within b.args.at (length b.args.s.now)) c.in-Ok.is b.requires.1.1
+fits : (at n m steps : ℕ) (c : Checked) → c ≡ Ok m steps → Within at n c → (at + steps ≤ m) × (m ≤ at + n)
+fits at n m steps c e w = subst (Within at n) e w
 
 pub then_statement-overflow_sub-i : goal.then_statement-overflow_sub-i
-then_statement-overflow_sub-i t c = omega (arith, (fits c).0)
+then_statement-overflow_sub-i t c = omega (arith, (fits _ _ _ _ _ c.in-Ok.is c.requires.1).0)
 
 pub then_statement-slice_bounds-check_statement-count : goal.then_statement-slice_bounds-check_statement-count
-then_statement-slice_bounds-check_statement-count t c = omega (arith, (fits c).1)
+then_statement-slice_bounds-check_statement-count t c = omega (arith, (fits _ _ _ _ _ c.in-Ok.is c.requires.1).1)
 
 pub then_statement-slice_bounds-check_statement-start : goal.then_statement-slice_bounds-check_statement-start
-then_statement-slice_bounds-check_statement-start t c = omega (arith, (fits c).1)
+then_statement-slice_bounds-check_statement-start t c = omega (arith, (fits _ _ _ _ _ c.in-Ok.is c.requires.1).1)
 
 pub then_statement-check_statement-requires : goal.then_statement-check_statement-requires
 then_statement-check_statement-requires t c =
     let a = c.args in
-    (omega arith, omega (arith, (fits c.before).0, (fits c.before).1, from-length (c.in-Ok.m - a.at) a.s.now))
+    (omega arith, omega (arith, (fits _ _ _ _ _ c.in-Ok.is c.requires.1).0, (fits _ _ _ _ _ c.in-Ok.is c.requires.1).1, from-length (c.in-Ok.m - a.at) a.s.now))
 
 pub then_statement-overflow_add-result : goal.then_statement-overflow_add-result
 then_statement-overflow_add-result t c =
-    let f = c.before.before.before.before.before in
-    let a = f.args in
-    let m = f.in-Ok.m in
+    let a = c.args in
+    let m = c.in-Ok.m in
+    let w = fits _ _ _ _ _ c.in-Ok.is c.requires.1 in
     let s = from (m - a.at) a.s.now in
     let r = statement-read a.vars a.levels 0 m s (sym c.in-Ok-check_statement.is ∙ c.check_statement.ensures 0) in
-    omega (arith, (fits f).0, (fits f).1, r.pays, r.high, from-length (m - a.at) a.s.now)
+    omega (arith, w.0, w.1, r.pays, r.high, from-length (m - a.at) a.s.now)
 
 pub then_statement-returns-in-Refused : goal.then_statement-returns-in-Refused
 then_statement-returns-in-Refused t c = λ start. rw c.in-Refused.is
 
 pub then_statement-returns-in-Refused-check_statement : goal.then_statement-returns-in-Refused-check_statement
 then_statement-returns-in-Refused-check_statement t c = λ start.
-    let k = c.c-in-Ok-1 in
-    rw (k.given.1, ← c.check_statement.ensures start, c.in-Refused-check_statement.is)
+    let k = c.in-Ok in
+    rw (k.is, ← c.check_statement.ensures start, c.in-Refused-check_statement.is)
 
 pub then_statement-returns-in-Ok-check_statement : goal.then_statement-returns-in-Ok-check_statement
 then_statement-returns-in-Ok-check_statement t c = λ start.
-    let k = c.c-in-Ok-1 in
-    rw (k.given.1, ← c.check_statement.ensures start, c.in-Ok-check_statement.is)
+    let k = c.in-Ok in
+    rw (k.is, ← c.check_statement.ensures start, c.in-Ok-check_statement.is)
