@@ -1,4 +1,4 @@
-// The exported interface, for C, Rust and Python. Every argument that a caller can pass gets an answer.
+// What is exported to C, Rust and Python by `runner_c`. Every argument that a caller can pass gets an answer.
 ghost use Rattle.std.specs.Prelude.{◌≡◌};
 ghost use Rattle.rules.specs.Accepting.{read_file, expand_file};
 ghost use Rattle.rules.specs.Answers.{read_numbers, counted_numbers};
@@ -12,8 +12,7 @@ use reader::read;
 use rules::{Call, Counted, Outcome};
 
 // The refusal's number (0: accepted) and its place.
-#[unsafe(no_mangle)]
-pub extern "C" fn agreement_read(file: &[u8], answer: &mut [u32; 2])
+pub fn agreement_read(file: &[u8], answer: &mut [u32; 2])
     ensures { answer.new ≡ read_numbers (read_file file.now) }
 {
     match read(file) {
@@ -27,8 +26,7 @@ pub extern "C" fn agreement_read(file: &[u8], answer: &mut [u32; 2])
 }
 
 // The refusal's number (0: completed), its place, and the step count; the steps in the words.
-#[unsafe(no_mangle)]
-pub extern "C" fn agreement_expand(file: &[u8], words: &mut [u32], answer: &mut [u32; 3])
+pub fn agreement_expand(file: &[u8], words: &mut [u32], answer: &mut [u32; 3])
     ensures answer_after { answer.new ≡ counted_numbers (expand_file file.now words.old).answer }
     ensures words_after { words.new ≡ (expand_file file.now words.old).words }
 {
@@ -44,8 +42,7 @@ pub extern "C" fn agreement_expand(file: &[u8], words: &mut [u32], answer: &mut 
 
 // Of the four functions below the answer is the refusal's number (0: completed), its place, whether there is a returned value
 // (1 or 0), that value or 0, and the units, and `state` gets the state record that is handed back.
-#[unsafe(no_mangle)]
-pub extern "C" fn agreement_start(file: &[u8], state: &mut [u32; 26], answer: &mut [u32; 5])
+pub fn agreement_start(file: &[u8], state: &mut [u32; 26], answer: &mut [u32; 5])
     ensures { StartHands file.now state.new answer.new }
 {
     let o = start(file);
@@ -55,8 +52,7 @@ pub extern "C" fn agreement_start(file: &[u8], state: &mut [u32; 26], answer: &m
     *answer = answer_words(a);
 }
 
-#[unsafe(no_mangle)]
-pub extern "C" fn agreement_call(
+pub fn agreement_call(
     file: &[u8],
     state: &mut [u32; 26],
     name: u8,
@@ -82,8 +78,7 @@ pub extern "C" fn agreement_call(
     *answer = answer_words(a);
 }
 
-#[unsafe(no_mangle)]
-pub extern "C" fn agreement_start_expanded(
+pub fn agreement_start_expanded(
     file: &[u8],
     words: &[u32],
     state: &mut [u32; 26],
@@ -98,8 +93,7 @@ pub extern "C" fn agreement_start_expanded(
     *answer = answer_words(a);
 }
 
-#[unsafe(no_mangle)]
-pub extern "C" fn agreement_call_expanded(
+pub fn agreement_call_expanded(
     file: &[u8],
     words: &[u32],
     state: &mut [u32; 26],

@@ -1,4 +1,4 @@
-// The exported interface of judging, for C, Rust and Python. Every argument that a caller can pass gets an answer.
+// What is exported to C, Rust and Python of judging, by `searcher_c`. Every argument that a caller can pass gets an answer.
 ghost use Rattle.std.specs.Prelude.{◌≡◌};
 ghost use Rattle.rules.specs.Answers.{verdict_numbers, judged_numbers};
 ghost use Rattle.rules.specs.Exported.{VerdictHands};
@@ -49,8 +49,7 @@ fn judged_words(j: Judged) -> [u32; 13]
     ]
 }
 
-#[unsafe(no_mangle)]
-pub extern "C" fn agreement_verdict(
+pub fn agreement_verdict(
     file: &[u8],
     rule: u32,
     words: &mut [u32],
