@@ -1,7 +1,6 @@
 -- By the three tests, in their order.
 use mathlib.Core.Path.{sym, ◌∙◌}
 use native.Mathlib.Omega.{arith}
-use borrow.Author.Rules.{rules}
 use borrow.Author.Tests.{leb-false}
 use Rattle.rules.specs.Basics.{first_of}
 use Rattle.rules.specs.Calling.{call_tests}

@@ -2,7 +2,6 @@
 use mathlib.Core.Path.{sym, ◌∙◌}
 use borrow.Author.Tests.{le-leb, lt-leb}
 use Rattle.rules.specs.Calling.{unfit}
-use borrow.Author.Rules.{rules}
 use Rattle.machine.proofs.state.is_unfit.Goals as goal
 
 pub returns-then-f-s : goal.returns-then-f-s

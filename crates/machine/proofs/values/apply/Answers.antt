@@ -6,7 +6,6 @@ use Rattle.rules.specs.Basics.{choose}
 use borrow.Author.Tests.{lt-ltb, le-ltb, le-leb, lt-leb, ne_eqb}
 use native.Mathlib.Nat.{mul-le-mul}
 use native.Mathlib.Omega.{arith}
-use borrow.Author.Rules.{rules}
 use Rattle.machine.proofs.values.apply.Goals as goal
 
 pub overflow_mul-x : goal.overflow_mul-x

@@ -4,7 +4,6 @@ use Rattle.machine.specs.Codes.{value_of}
 use Rattle.rules.specs.Basics.{most32}
 use borrow.Author.Tests.{le-leb}
 use native.Mathlib.Omega.{arith}
-use borrow.Author.Rules.{rules}
 use Rattle.machine.proofs.values.code.Goals as goal
 
 pub returns-in-Is : goal.returns-in-Is
