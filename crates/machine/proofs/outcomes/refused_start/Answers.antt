@@ -1,5 +1,4 @@
 -- By the definition.
-use borrow.Author.Rules.{rules}
 use Rattle.rules.specs.Calling.{refused_start}
 use Rattle.machine.proofs.outcomes.refused_start.Goals as goal
 

@@ -2,7 +2,6 @@
 use Rattle.rules.specs.Calling.{started, state_after}
 use Rattle.machine.proofs.Calls.{flow-end}
 use Rattle.machine.proofs.Codes.{stopped_code, done-code}
-use borrow.Author.Rules.{rules}
 use Rattle.machine.proofs.outcomes.started.Goals as goal
 
 pub returns-then-p-gt1 : goal.returns-then-p-gt1

@@ -1,6 +1,5 @@
 -- By the definition.
 use Rattle.rules.specs.Calling.{refused_call}
-use borrow.Author.Rules.{rules}
 use Rattle.machine.proofs.outcomes.unmoved.Goals as goal
 
 pub returns : goal.returns

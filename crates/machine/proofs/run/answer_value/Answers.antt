@@ -1,7 +1,6 @@
 -- By the value: it is there, or it failed.
 use Rattle.machine.specs.Flows.{flow_of, answer_value}
 use Rattle.rules.specs.Running.{or_stop, return_with}
-use borrow.Author.Rules.{rules}
 use Rattle.machine.proofs.run.answer_value.Goals as goal
 
 pub returns-in-Is : goal.returns-in-Is

@@ -3,7 +3,6 @@ use Rattle.rules.specs.Running.{assign}
 use borrow.Author.Tests.{lt-ltb, le-ltb}
 use mathlib.Core.Logic.{⊎_elim}
 use native.Mathlib.Omega.{arith}
-use borrow.Author.Rules.{rules}
 use Rattle.machine.proofs.run.assign.Goals as goal
 
 pub bounds-variables-target : goal.bounds-variables-target

@@ -1,7 +1,6 @@
 -- By the value: it is there, or it failed.
 use Rattle.machine.specs.Flows.{flow_of, assign_value}
 use Rattle.rules.specs.Running.{or_stop}
-use borrow.Author.Rules.{rules}
 use Rattle.machine.proofs.run.assign_value.Goals as goal
 
 pub returns-in-Is : goal.returns-in-Is

@@ -2,7 +2,6 @@
 use Rattle.machine.specs.Flows.{flow_of}
 use Rattle.rules.specs.Running.{charge}
 use borrow.Author.Tests.{lt-ltb, le-ltb}
-use borrow.Author.Rules.{rules}
 use Rattle.machine.proofs.run.charge.Goals as goal
 
 pub returns-then-n-limit : goal.returns-then-n-limit

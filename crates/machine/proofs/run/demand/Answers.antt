@@ -2,7 +2,6 @@
 use Rattle.machine.specs.Flows.{flow_of, demand_value}
 use Rattle.rules.specs.Running.{or_stop}
 use mathlib.Core.Path.{sym, ◌∙◌}
-use borrow.Author.Rules.{rules}
 use Rattle.machine.proofs.run.demand.Goals as goal
 
 pub returns-then-is_true : goal.returns-then-is_true

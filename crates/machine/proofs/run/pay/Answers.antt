@@ -5,7 +5,6 @@ use borrow.Author.Tests.{lt-ltb, le-ltb, le-leb, lt-leb}
 use native.Mathlib.Omega.{arith}
 use Rattle.rules.specs.Basics.{most32}
 use Rattle.machine.proofs.Sums.{entry-most}
-use borrow.Author.Rules.{rules}
 use Rattle.machine.proofs.run.pay.Goals as goal
 
 pub returns-then-accounts-k : goal.returns-then-accounts-k

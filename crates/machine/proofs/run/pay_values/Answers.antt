@@ -1,7 +1,6 @@
 -- By the two values: each is there, or it failed.
 use Rattle.machine.specs.Flows.{flow_of, pay_values}
 use Rattle.rules.specs.Running.{or_stop}
-use borrow.Author.Rules.{rules}
 use Rattle.machine.proofs.run.pay_values.Goals as goal
 
 pub returns-in_default : goal.returns-in_default

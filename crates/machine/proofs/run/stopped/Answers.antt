@@ -1,7 +1,6 @@
 -- By the definition: its code is 2 more than the number.
 use Rattle.machine.specs.Flows.{flow_of}
 use Rattle.machine.proofs.Codes.{refused-code}
-use borrow.Author.Rules.{rules}
 use Rattle.machine.proofs.run.stopped.Goals as goal
 
 pub returns : goal.returns

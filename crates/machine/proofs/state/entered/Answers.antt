@@ -4,7 +4,6 @@ use Rattle.rules.specs.Basics.{most32}
 use Rattle.machine.proofs.Sums.{entry-most}
 use native.Mathlib.Omega.{arith}
 use mathlib.Core.Path.{refl}
-use borrow.Author.Rules.{rules}
 use Rattle.machine.proofs.state.entered.Goals as goal
 
 pub overflow_add-result : goal.overflow_add-result

@@ -1,11 +1,6 @@
 -- What is left of the entries has a nonzero one exactly if the whole has.
 use Rattle.machine.proofs.Sums.{any_here, any-later, any_none}
-use Rattle.rules.specs.Basics.{any}
-use Rattle.rules.specs.Values.{is_true}
-use Prim.Native.Nat.{◌-◌}
-use mathlib.Core.Path.{◌≡◌, refl, sym, ◌∙◌}
-use lib.ListN.{length, drop}
-use borrow.Author.Rules.{rules}
+use mathlib.Core.Path.{refl, sym, ◌∙◌}
 use native.Mathlib.Omega.{arith}
 use Rattle.machine.proofs.state.nonzero_from.Goals as goal
 

@@ -1,11 +1,8 @@
-use Rattle.machine.proofs.Sums.{any_here, any-later, any_none}
 use Rattle.rules.specs.Basics.{any}
 use Rattle.rules.specs.Values.{is_true}
 use Prim.Native.Nat.{◌-◌}
-use mathlib.Core.Path.{◌≡◌, refl, sym, ◌∙◌}
+use mathlib.Core.Path.{◌≡◌}
 use lib.ListN.{length, drop}
-use borrow.Author.Rules.{rules}
-use native.Mathlib.Omega.{arith}
 use Rattle.machine.proofs.state.nonzero_from.Given as goal
 
 abbrev pub invariant-loop-i : goal.invariant-loop-i

@@ -1,7 +1,6 @@
 -- By the definition.
 use mathlib.Core.Path.{refl}
 use Rattle.rules.specs.Calling.{opening_state}
-use borrow.Author.Rules.{rules}
 use Rattle.machine.proofs.state.opening_state.Goals as goal
 
 pub returns : goal.returns

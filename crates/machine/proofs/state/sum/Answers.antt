@@ -1,10 +1,5 @@
 -- What was added and the sum of what is left make the whole sum.
-use Rattle.rules.specs.Basics.{sum}
 use Rattle.machine.proofs.Sums.{sum-from, sum-none}
-use Prim.Native.Nat.{◌+◌, ◌-◌, ◌*◌, ◌≤◌}
-use mathlib.Core.Path.{◌≡◌}
-use lib.ListN.{drop}
-use borrow.Author.Rules.{rules}
 use borrow.Kind.Array.{e_int, good_length}
 use mir.Syntax.{w32}
 use native.Mathlib.Omega.{arith}

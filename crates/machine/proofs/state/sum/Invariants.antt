@@ -1,12 +1,7 @@
 use Rattle.rules.specs.Basics.{sum}
-use Rattle.machine.proofs.Sums.{sum-from, sum-none}
 use Prim.Native.Nat.{◌+◌, ◌-◌, ◌*◌, ◌≤◌}
 use mathlib.Core.Path.{◌≡◌}
 use lib.ListN.{drop}
-use borrow.Author.Rules.{rules}
-use borrow.Kind.Array.{e_int, good_length}
-use mir.Syntax.{w32}
-use native.Mathlib.Omega.{arith}
 use Rattle.machine.proofs.state.sum.Given as goal
 
 abbrev pub invariant-loop-i : goal.invariant-loop-i

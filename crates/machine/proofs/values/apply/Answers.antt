@@ -1,10 +1,11 @@
 -- In each arm the operator is a number, at which the table's entry is found; what is left are the arm's own tests.
+use Rattle.std.specs.Prelude.{ℕ, ◌≤◌, ◌≡◌, false}
+use lib.Dec.{eqb}
 use Rattle.rules.specs.Values.{apply, checked, is_true, truth}
 use Rattle.rules.specs.Basics.{choose}
 use borrow.Author.Tests.{lt-ltb, le-ltb, le-leb, lt-leb, ne_eqb}
 use native.Mathlib.Nat.{mul-le-mul}
 use native.Mathlib.Omega.{arith}
-use borrow.Author.Rules.{rules}
 use Rattle.machine.proofs.values.apply.Goals as goal
 
 pub overflow_mul-x : goal.overflow_mul-x
@@ -80,17 +81,18 @@ returns-else-x-gt0-2 c = rw c.in-10.is (rw (le-ltb _ _ c.if-x-gt0-2.false) c.tru
 pub returns-in_default : goal.returns-in_default
 unfolding apply choose
 returns-in_default c =
-    let r = c.in_default-own.rest in
-    simp (
-      ne_eqb _ _ r.1,
-      ne_eqb _ _ r.0.1,
-      ne_eqb _ _ r.0.0.1,
-      ne_eqb _ _ r.0.0.0.1,
-      ne_eqb _ _ r.0.0.0.0.1,
-      ne_eqb _ _ r.0.0.0.0.0.1,
-      ne_eqb _ _ r.0.0.0.0.0.0.1,
-      ne_eqb _ _ r.0.0.0.0.0.0.0.1,
-      ne_eqb _ _ r.0.0.0.0.0.0.0.0.1,
-      ne_eqb _ _ r.0.0.0.0.0.0.0.0.0.1,
-      ne_eqb _ _ r.0.0.0.0.0.0.0.0.0.0.1,
+    let far : 11 ≤ c.args.operator = omega arith in
+    let past : (k : ℕ) → k ≤ 10 → eqb c.args.operator k ≡ false = λ k h. ne_eqb _ k (λ e. absurd (omega arith)) in
+    rw (
+      past 0 (omega arith),
+      past 1 (omega arith),
+      past 2 (omega arith),
+      past 3 (omega arith),
+      past 4 (omega arith),
+      past 5 (omega arith),
+      past 6 (omega arith),
+      past 7 (omega arith),
+      past 8 (omega arith),
+      past 9 (omega arith),
+      past 10 (omega arith),
     )

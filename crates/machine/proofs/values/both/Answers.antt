@@ -3,7 +3,6 @@ use Rattle.machine.specs.Codes.{value_of}
 use Rattle.rules.specs.Basics.{most32}
 use Rattle.rules.specs.Values.{both, on_value}
 use borrow.Author.Tests.{le-leb, lt-leb}
-use borrow.Author.Rules.{rules}
 use Rattle.machine.proofs.values.both.Goals as goal
 
 pub returns-then-v-gt4294967295 : goal.returns-then-v-gt4294967295

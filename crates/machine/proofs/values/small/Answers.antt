@@ -2,7 +2,6 @@
 use Rattle.rules.specs.Values.{checked}
 use Rattle.rules.specs.Basics.{most32}
 use borrow.Author.Tests.{le-leb, lt-leb}
-use borrow.Author.Rules.{rules}
 use Rattle.machine.proofs.values.small.Goals as goal
 
 pub returns-then-x-le4294967295 : goal.returns-then-x-le4294967295

@@ -2,7 +2,6 @@
 use Rattle.machine.specs.Codes.{value_of}
 use Rattle.rules.specs.Basics.{most32}
 use borrow.Author.Tests.{le-leb, lt-leb}
-use borrow.Author.Rules.{rules}
 use Rattle.machine.proofs.values.value.Goals as goal
 
 pub returns-then-code-le4294967295 : goal.returns-then-code-le4294967295
