@@ -240,7 +240,7 @@ module _ (file : List ℕ) (a : Agreement) (e : file_of file ≡ good a) where
     calls-all s (k ∷ ks) h =
         let b = h.eight in
         let f = fit-kept a.fields s _ (call_kept s k (omega arith)) h in
-        more (of-fit _ f) (calls-all _ ks f)
+        more (of-fit _ f) (calls-all (call file s k).state ks f)
 
     pub run-all : (calls : List Call) → is_completed (start file).answer ≡ true → All (λ (o : Outcome). P o.state) (run_list file calls)
     unfolding run_list follow

@@ -18,6 +18,7 @@ use Rattle.verdicts.proofs.Exact.{at-pos}
 -- ---- what holds of each list
 
 pub all-at : {P : List ℕ → Type 0} {ls : List (List ℕ)} {n : ℕ} {l : List ℕ} → All P ls → At ls n l → P l
+all-at none x = elim x [ ]
 all-at (more h a) here = h
 all-at (more h a) (there b) = all-at a b
 
@@ -133,6 +134,7 @@ module _ {Q : List ℕ → List ℕ → Type 0} where
   sorted-in g (more {x = l} h a) (next b s) = next (all_both (λ k u v. g l k h u v) a b) (sorted-in g a s)
 
   sorted-at : {ls : List (List ℕ)} {n m : ℕ} {l k : List ℕ} → Sorted Q ls → At ls n l → At ls m k → n < m → Q l k
+  sorted-at nil x _ e = elim x [ ]
   sorted-at (next h s) here here e = absurd (omega arith)
   sorted-at (next h s) here (there b) e = all-at h b
   sorted-at (next h s) (there a) here e = let q = at-pos a in absurd (omega arith)
