@@ -10,33 +10,30 @@ pub fn head(name: &str) -> String {
 
 const HEAD: &str = "\
 -- Cases: what a definition gives is what the interpreter gives.
-use mathlib.Core.Path.{_≡_, refl}
-use Prim.Native.Nat.{ℕ}
-use mathlib.Core.List.{List, [], _∷_}
-use Rattle·rules.specs.Accepting.{readFile, expandFile}
-use Rattle·rules.specs.Calling.{call, runList}
-use Rattle·rules.specs.Stepping.{startExpanded, callExpanded, runListExpanded}
-use Rattle·rules.specs.Judging.{verdict}
-use Rattle·rules.specs.Reporting.{report}
-use Rattle·rules.proofs.Whole.{whole}
-use Rattle·CRATE·proofs.proofs.Literals.{stepped, unread, words, calling, holding, done, gave, denied, numbers, judgement}
+use Rattle.std.proofs.Common.{◌≡◌, refl, ℕ, List, [], ◌∷◌}
+use Rattle.rules.specs.Accepting.{read_file, expand_file}
+use Rattle.rules.specs.Calling.{call, run_list}
+use Rattle.rules.specs.Stepping.{start_expanded, call_expanded, run_list_expanded}
+use Rattle.rules.specs.Judging.{verdict}
+use Rattle.rules.specs.Reporting.{report}
+use Rattle.rules.proofs.Whole.{whole}
+use Rattle.CRATE.proofs.Literals.{stepped, unread, words, calling, holding, done, gave, denied, numbers, judgement}
 ";
 
 /// Short names for literal values, none of them a definition of the rules.
 pub const LITERALS: &str = "\
 -- Short names for literal values.
-use Prim.Native.Nat.{ℕ}
-use mathlib.Core.List.{List, [], _∷_, _++_}
-use Rattle·rules.specs.declared.Answer.the-variants as answer
-use Rattle·rules.specs.declared.Call.{Call}
-use Rattle·rules.specs.declared.Counted.{Counted}
-use Rattle·rules.specs.declared.Counted.the-variants as counted
-use Rattle·rules.specs.declared.Judged.{Judged}
-use Rattle·rules.specs.declared.Outcome.{Outcome}
-use Rattle·rules.specs.declared.Returned.the-variants.{NoValue, Given}
-use Rattle·rules.specs.declared.State.{State}
-use Rattle·rules.specs.Accepting.{Lent}
-use Rattle·rules.specs.Answers.{answerNumbers, stateNumbers, judgedNumbers}
+use Rattle.std.specs.Prelude.{ℕ, List, [], ◌∷◌, ◌++◌}
+use Rattle.rules.specs.declared.Answer.TheVariants as answer
+use Rattle.rules.specs.declared.Call.{Call}
+use Rattle.rules.specs.declared.Counted.{Counted}
+use Rattle.rules.specs.declared.Counted.TheVariants as counted
+use Rattle.rules.specs.declared.Judged.{Judged}
+use Rattle.rules.specs.declared.Outcome.{Outcome}
+use Rattle.rules.specs.declared.Returned.TheVariants.{NoValue, Given}
+use Rattle.rules.specs.declared.State.{State}
+use Rattle.rules.specs.Accepting.{Lent}
+use Rattle.rules.specs.Answers.{answer_numbers, state_numbers, judged_numbers}
 
 abbrev pub stepped : ℕ → Counted
 stepped n = counted.Steps n
@@ -66,10 +63,10 @@ denied n p u s = record { answer = answer.Refused (record { number = n; place = 
 
 -- an outcome and a verdict by their numbers
 abbrev pub numbers : Outcome → List ℕ
-numbers o = answerNumbers (o .answer) ++ stateNumbers (o .state)
+numbers o = answer_numbers (o.answer) ++ state_numbers (o.state)
 
 abbrev pub judgement : Lent Judged → Lent (List ℕ)
-judgement l = record { answer = judgedNumbers (l .answer); words = l .words }
+judgement l = record { answer = judged_numbers (l.answer); words = l.words }
 ";
 
 /// A list in brackets.

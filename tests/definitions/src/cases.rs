@@ -46,8 +46,8 @@ pub fn of(chosen: &Chosen) -> Vec<Case> {
 pub fn reading(bytes: &[u8]) -> Case {
     let answer = read(bytes).map(|a| expand::steps(&a).len() as u32).map_err(|r| (r.number, r.place));
     Case {
-        definition: "readFile",
-        term: "readFile FILE".to_string(),
+        definition: "read_file",
+        term: "read_file FILE".to_string(),
         expected: antt::counted(answer),
         met: vec![refusal(answer.err().map_or(0, |r| r.0))],
     }
@@ -123,9 +123,9 @@ impl Maker<'_> {
     fn expanding(&mut self, lent: &[u32]) {
         let mut after = lent.to_vec();
         let answer = expand::expand(self.bytes, &mut after);
-        let term = format!("expandFile FILE {}", self.words(lent));
+        let term = format!("expand_file FILE {}", self.words(lent));
         let expected = self.lent(antt::counted(answer), &after);
-        self.add("expandFile", term, expected, vec![refusal(answer.err().map_or(0, |r| r.0))]);
+        self.add("expand_file", term, expected, vec![refusal(answer.err().map_or(0, |r| r.0))]);
     }
 
     /// Exactly enough words, one too few, some to spare.
@@ -175,18 +175,18 @@ impl Maker<'_> {
         let calls = antt::items(&list.iter().map(antt::call).collect::<Vec<_>>());
         let plain = follow(run::start(bytes), list, |s, k| run::call(bytes, s, k));
         let met = plain.iter().map(|o| refusal(o.refusal)).collect();
-        self.add("runList", format!("runList FILE {calls}"), antt::outcomes(&plain), met);
+        self.add("run_list", format!("run_list FILE {calls}"), antt::outcomes(&plain), met);
         let expanded = follow(steps::start(bytes, lent), list, |s, k| steps::call(bytes, lent, s, k));
         let met = expanded.iter().map(|o| refusal(o.refusal)).collect();
-        let term = format!("runListExpanded FILE {} {calls}", self.words(lent));
-        self.add("runListExpanded", term, antt::outcomes(&expanded), met);
+        let term = format!("run_list_expanded FILE {} {calls}", self.words(lent));
+        self.add("run_list_expanded", term, antt::outcomes(&expanded), met);
     }
 
     fn oddly_lent_start(&mut self) {
         let lent = self.odd_words();
         let outcome = steps::start(self.bytes, &lent);
-        let term = format!("numbers (startExpanded FILE {})", self.words(&lent));
-        self.add("startExpanded", term, antt::numbers(&outcome), vec![refusal(outcome.refusal)]);
+        let term = format!("numbers (start_expanded FILE {})", self.words(&lent));
+        self.add("start_expanded", term, antt::numbers(&outcome), vec![refusal(outcome.refusal)]);
     }
 
     /// One call on a record that may be unfit, on both forms, with words that
@@ -214,8 +214,8 @@ impl Maker<'_> {
     fn calling_expanded(&mut self, lent: &[u32], state: &State, call: &Call) {
         let outcome = steps::call(self.bytes, lent, state, call);
         let (words, state, call) = (self.words(lent), antt::state(state), antt::call(call));
-        let term = format!("numbers (callExpanded FILE {words} {state} {call})");
-        self.add("callExpanded", term, antt::numbers(&outcome), vec![refusal(outcome.refusal)]);
+        let term = format!("numbers (call_expanded FILE {words} {state} {call})");
+        self.add("call_expanded", term, antt::numbers(&outcome), vec![refusal(outcome.refusal)]);
     }
 
     /// Each rule that is cheap to judge, and a number of no rule; the report

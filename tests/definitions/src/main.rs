@@ -75,7 +75,7 @@ fn write_crate(folder: &Path, modules: &[String]) {
     let lines: String = modules.iter().map(|m| format!("mod {m}\n")).collect();
     write_file(&folder.join("proofs/Lib.antt"), &format!("mod Literals\n{lines}"));
     write_file(&folder.join("proofs/Literals.antt"), antt::LITERALS);
-    write_file(&folder.join("src/lib.rt"), "// No functions: the cases stand in proofs/.\n");
+    write_file(&folder.join("src/lib.rt"), "// No functions: the cases stand in proofs/.\n#![tactic(auto)]\n");
 }
 
 fn write_file(path: &Path, text: &str) {
