@@ -1,0 +1,73 @@
+-- None of the transitions that were passed has the name and origin.
+use Prim.Native.Nat.{ℕ, ◌-◌, ◌≤◌}
+use mathlib.Core.Path.{◌≡◌, refl, sym, ap, ◌∙◌}
+use mathlib.Core.Logic.{⊎_elim}
+use native.Mathlib.Omega.{arith}
+use lib.ListN.{take}
+use borrow.Author.Rules.{rules}
+use Rattle.rules.specs.Basics.{any}
+use mathlib.Core.Bool.{false}
+use Rattle.access.specs.Trees.{TreeRead}
+use Rattle.access.specs.Places.{past}
+use Rattle.access.specs.Answers.{same}
+use Rattle.access.proofs.Groups.{further}
+use Rattle.access.proofs.Finding.{Here, here, Looked, looked, among-here, among-no-name, among-no-origin}
+use Rattle.access.proofs.transitions.is_among.Goals as goal
+
+-- the transition that is looked at
+one :
+    (c : goal.In-loop-i) (a : TreeRead c.args.file.now) →
+    Here c.args.file.now a.tree c.loop-i.at c.loop-i.i
+one c a = let l = c in here l.requires.0 l.loop-i.i l.loop-i.at (omega arith) l.loop-i.invariant.1 a
+
+look : (c : goal.In-loop-i) → Looked c.args.file.now c.loop-i.at
+look c = let l = c in looked l.requires.0 l.loop-i.i l.loop-i.at (omega arith) l.loop-i.invariant.1
+
+pub loop-i-init : goal.loop-i-init
+unfolding past any
+loop-i-init c = (omega arith, refl, λ a. refl)
+
+pub overflow_add-at : goal.overflow_add-at
+overflow_add-at c = omega (arith, (look c).ranges)
+
+pub bounds-file-at : goal.bounds-file-at
+bounds-file-at c = omega (arith, (look c.before).fits)
+
+pub overflow_add-at-then-file-at : goal.overflow_add-at-then-file-at
+overflow_add-at-then-file-at c = omega (arith, (look c.before.before).fits)
+
+pub bounds-file-at-then-file-at : goal.bounds-file-at-then-file-at
+bounds-file-at-then-file-at c = omega (arith, (look c.before.before.before).fits)
+
+pub returns-then-file-at-2 : goal.returns-then-file-at-2
+returns-then-file-at-2 c =
+    let v = c.before.before.before.before in
+    let s = v.args in
+    λ a. sym (among-here (one v a) s.n s.name s.from c.if-file-at.true c.if-file-at-2.true (omega arith))
+
+pub u16_at-at-requires : goal.u16_at-at-requires
+u16_at-at-requires c = omega (arith, (look c.before.before).fits)
+
+pub overflow_add-at-in-loop-i : goal.overflow_add-at-in-loop-i
+overflow_add-at-in-loop-i c = omega (arith, (look c.before.before.before).size _ c.u16_at-at.ensures.0)
+
+pub loop-i-preserved : goal.loop-i-preserved
+loop-i-preserved c =
+    let v = c.before.before.before in
+    let l = v in
+    let s = l.args in (
+      omega arith,
+      further s.file.now _ l.loop-i.i l.loop-i.at c.u16_at-at.result l.loop-i.invariant.1 c.u16_at-at.ensures.0,
+      λ a.
+          ⊎_elim
+          (λ w. among-no-origin (one v a) s.n s.name s.from w.0.taken w.2.left (l.loop-i.invariant.2 a))
+          (λ w. among-no-name (one v a) s.n s.name s.from w.left (l.loop-i.invariant.2 a))
+          c.if-file-at.branch,
+    )
+
+pub returns : goal.returns
+returns c =
+    let l = c in
+    let s = l.args in
+    let z : s.n ≡ l.loop-i.i = omega arith in
+    λ a. sym (ap (λ (k : ℕ). any (same s.name s.from) (take k a.tree.transitions)) z ∙ l.loop-i.invariant.2 a)

@@ -1,0 +1,21 @@
+use Prim.Native.Nat.{ℕ, ◌-◌, ◌≤◌}
+use mathlib.Core.Path.{◌≡◌, refl, sym, ap, ◌∙◌}
+use mathlib.Core.Logic.{⊎_elim}
+use native.Mathlib.Omega.{arith}
+use lib.ListN.{take}
+use borrow.Author.Rules.{rules}
+use Rattle.rules.specs.Basics.{any}
+use mathlib.Core.Bool.{false}
+use Rattle.access.specs.Trees.{TreeRead}
+use Rattle.access.specs.Places.{past}
+use Rattle.access.specs.Answers.{same}
+use Rattle.access.proofs.Groups.{further}
+use Rattle.access.proofs.Finding.{Here, here, Looked, looked, among-here, among-no-name, among-no-origin}
+use Rattle.access.proofs.transitions.is_among.Given as goal
+
+abbrev pub invariant-loop-i : goal.invariant-loop-i
+invariant-loop-i l =
+    (l.i ≤ l.n) × (l.at ≡ past l.file l.initial.at l.i) × ((a : TreeRead l.file) → any (same l.name l.from) (take l.i a.tree.transitions) ≡ false)
+
+abbrev pub decreases-loop-i : goal.decreases-loop-i
+decreases-loop-i l = l.n - l.i
