@@ -6,12 +6,13 @@ use lib.ListN.{length, take, drop}
 use Rattle.rules.specs.Basics.{number}
 use Rattle.access.specs.Places.{past, Children}
 use Rattle.access.proofs.Groups.{room, further, goes_on, stops, group-same}
+use Rattle.access.proofs.places.children.Goals.{In-loop-end}
 use Rattle.access.proofs.places.children.Goals as goal
 
 -- one more record, of n bytes
 one :
-    (c : goal.In-loop-end) (n : ℕ) →
-    let l = c.before.before in
+    (c : In-loop-end) (n : ℕ) →
+    let l = c in
     let file = l.args.file.now in
     n ≡ number (take 2 (drop l.loop-end.end file)) → (4 ≤ n) × (l.loop-end.end + n ≤ length file)
 one c n e =
@@ -29,20 +30,20 @@ pub u16_at-end-requires : goal.u16_at-end-requires
 u16_at-end-requires c = omega (arith, one c _ refl)
 
 pub overflow_add-end : goal.overflow_add-end
-overflow_add-end c = omega (arith, one c.before _ c.u16_at-end.ensures.0)
+overflow_add-end c = omega (arith, one (goal.at.overflow_add-end c).In-loop-end _ c.u16_at-end.ensures.0)
 
 pub overflow_add-count : goal.overflow_add-count
-overflow_add-count c = omega (arith, one c.before _ c.u16_at-end.ensures.0)
+overflow_add-count c = omega (arith, one (goal.at.overflow_add-count c).In-loop-end _ c.u16_at-end.ensures.0)
 
 pub loop-end-smaller : goal.loop-end-smaller
-loop-end-smaller c = omega (arith, one c.before _ c.u16_at-end.ensures.0)
+loop-end-smaller c = omega (arith, one (goal.at.loop-end-smaller c).In-loop-end _ c.u16_at-end.ensures.0)
 
 pub loop-end-preserved : goal.loop-end-preserved
 loop-end-preserved c =
     let l = c in
     let a = l.args in
     let v = l.loop-end.invariant in
-    let o = one c.before _ c.u16_at-end.ensures.0 in (
+    let o = one (goal.at.loop-end-preserved c).In-loop-end _ c.u16_at-end.ensures.0 in (
       further a.file.now a.at l.loop-end.count l.loop-end.end c.u16_at-end.result v.0 c.u16_at-end.ensures.0,
       o.1,
       omega (arith, o.0, v.2),

@@ -7,12 +7,13 @@ use borrow.Author.Rules.{rules}
 use Rattle.rules.specs.Basics.{number}
 use Rattle.access.specs.Places.{past}
 use Rattle.access.proofs.Groups.{room, further}
+use Rattle.access.proofs.places.nth.Goals.{In-loop-k}
 use Rattle.access.proofs.places.nth.Goals as goal
 
 -- the record that is passed, of n bytes
 one :
-    (c : goal.In-loop-k) (n : ℕ) →
-    let l = c.before in
+    (c : In-loop-k) (n : ℕ) →
+    let l = c in
     let file = l.args.file.now in
     n ≡ number (take 2 (drop l.loop-k.to file)) → (4 ≤ n) × (l.loop-k.to + n ≤ length file)
 one c n e = let l = c in room _ l.loop-k.k l.loop-k.to n l.loop-k.invariant.1 e (l.requires l.loop-k.k (omega arith))
@@ -25,7 +26,7 @@ pub u16_at-to-requires : goal.u16_at-to-requires
 u16_at-to-requires c = omega (arith, one c _ refl)
 
 pub overflow_add-to : goal.overflow_add-to
-overflow_add-to c = omega (arith, one c.before _ c.u16_at-to.ensures.0)
+overflow_add-to c = omega (arith, one (goal.at.overflow_add-to c).In-loop-k _ c.u16_at-to.ensures.0)
 
 pub loop-k-preserved : goal.loop-k-preserved
 loop-k-preserved c =

@@ -13,9 +13,6 @@ use Rattle.access.specs.Places.{past}
 use Rattle.access.specs.Answers.{found_of}
 use Rattle.access.proofs.Groups.{further}
 use Rattle.access.proofs.Finding.{Here, here, Looked, looked, all-passed, Left, find-all, find-here, find-other, find_none, find-end}
-use Rattle.access.proofs.transitions.find_transition.Lts as lts
-use Rattle.access.proofs.transitions.find_transition.Tie as tie
-use Rattle.access.proofs.transitions.find_transition.Reads as own
 use Rattle.access.proofs.transitions.find_transition.Given as goal
 
 abbrev pub invariant-loop-i : goal.invariant-loop-i

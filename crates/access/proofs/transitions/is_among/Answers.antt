@@ -12,15 +12,16 @@ use Rattle.access.specs.Places.{past}
 use Rattle.access.specs.Answers.{same}
 use Rattle.access.proofs.Groups.{further}
 use Rattle.access.proofs.Finding.{Here, here, Looked, looked, among-here, among-no-name, among-no-origin}
+use Rattle.access.proofs.transitions.is_among.Goals.{In-loop-i}
 use Rattle.access.proofs.transitions.is_among.Goals as goal
 
 -- the transition that is looked at
 one :
-    (c : goal.In-loop-i) (a : TreeRead c.args.file.now) →
+    (c : In-loop-i) (a : TreeRead c.args.file.now) →
     Here c.args.file.now a.tree c.loop-i.at c.loop-i.i
 one c a = let l = c in here l.requires.0 l.loop-i.i l.loop-i.at (omega arith) l.loop-i.invariant.1 a
 
-look : (c : goal.In-loop-i) → Looked c.args.file.now c.loop-i.at
+look : (c : In-loop-i) → Looked c.args.file.now c.loop-i.at
 look c = let l = c in looked l.requires.0 l.loop-i.i l.loop-i.at (omega arith) l.loop-i.invariant.1
 
 pub loop-i-init : goal.loop-i-init
@@ -28,32 +29,32 @@ unfolding past any
 loop-i-init c = (omega arith, refl, λ a. refl)
 
 pub overflow_add-at : goal.overflow_add-at
-overflow_add-at c = omega (arith, (look c).ranges)
+overflow_add-at c = omega (arith, (look (goal.at.overflow_add-at c).In-loop-i).fits)
 
 pub bounds-file-at : goal.bounds-file-at
-bounds-file-at c = omega (arith, (look c.before).fits)
+bounds-file-at c = omega (arith, (look (goal.at.bounds-file-at c).In-loop-i).fits)
 
 pub overflow_add-at-then-file-at : goal.overflow_add-at-then-file-at
-overflow_add-at-then-file-at c = omega (arith, (look c.before.before).fits)
+overflow_add-at-then-file-at c = omega (arith, (look (goal.at.overflow_add-at-then-file-at c).In-loop-i).fits)
 
 pub bounds-file-at-then-file-at : goal.bounds-file-at-then-file-at
-bounds-file-at-then-file-at c = omega (arith, (look c.before.before.before).fits)
+bounds-file-at-then-file-at c = omega (arith, (look (goal.at.bounds-file-at-then-file-at c).In-loop-i).fits)
 
 pub returns-then-file-at-2 : goal.returns-then-file-at-2
 returns-then-file-at-2 c =
-    let v = c.before.before.before.before in
+    let v = (goal.at.returns-then-file-at-2 c).In-loop-i in
     let s = v.args in
     λ a. sym (among-here (one v a) s.n s.name s.from c.if-file-at.true c.if-file-at-2.true (omega arith))
 
 pub u16_at-at-requires : goal.u16_at-at-requires
-u16_at-at-requires c = omega (arith, (look c.before.before).fits)
+u16_at-at-requires c = omega (arith, (look (goal.at.u16_at-at-requires c).In-loop-i).fits)
 
 pub overflow_add-at-in-loop-i : goal.overflow_add-at-in-loop-i
-overflow_add-at-in-loop-i c = omega (arith, (look c.before.before.before).size _ c.u16_at-at.ensures.0)
+overflow_add-at-in-loop-i c = omega (arith, (look (goal.at.overflow_add-at-in-loop-i c).In-loop-i).size _ c.u16_at-at.ensures.0)
 
 pub loop-i-preserved : goal.loop-i-preserved
 loop-i-preserved c =
-    let v = c.before.before.before in
+    let v = (goal.at.loop-i-preserved c).In-loop-i in
     let l = v in
     let s = l.args in (
       omega arith,
