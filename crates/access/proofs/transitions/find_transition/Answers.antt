@@ -14,7 +14,7 @@ use Rattle.access.specs.Places.{past}
 use Rattle.access.specs.Answers.{found_of}
 use Rattle.access.proofs.Groups.{further}
 use Rattle.access.proofs.Finding.{Here, here, Looked, looked, all-passed, Left, find-all, find-here, find-other, find_none, find-end}
-use Rattle.access.proofs.transitions.find_transition.Goals.{After-loop-i, In-loop-i}
+use Rattle.access.proofs.transitions.find_transition.Goals.{After-loop-i, In-loop-i, then-file-at+else-wide-state, else-file-at}
 use Rattle.access.proofs.transitions.find_transition.Goals as goal
 
 -- the transition that is looked at
@@ -67,10 +67,11 @@ loop-i-preserved c =
       λ a.
           let left : Bool → Found = λ b. Left b s.name s.state (drop (l.loop-i.i + 1) a.tree.transitions) in
           l.loop-i.invariant.2 a
-          ∙ ⊎_elim
-          (λ w. find-other (one v a) s.name s.state e w.0.taken (λ z. w.3.left (w.2.ensures ∙ z)) ∙ ap left (sym w.4))
-          (λ w. find_none (one v a) s.name s.state e w.0.left ∙ ap left (sym w.1))
-          c.if-file-at.branch,
+          ∙ elim c.if-file-at.branch [
+            | then-file-at+else-wide-state w ↦
+                find-other (one v a) s.name s.state e w.if-file-at.true (λ z. w.if-wide-state.false (w.wide.ensures ∙ z)) ∙ ap left (sym w.elsewhere-is)
+            | else-file-at w ↦ find_none (one v a) s.name s.state e w.if-file-at.false ∙ ap left (sym w.elsewhere-is)
+          ],
     )
 
 -- the transitions have all been passed

@@ -12,7 +12,7 @@ use Rattle.access.specs.Places.{past}
 use Rattle.access.specs.Answers.{same}
 use Rattle.access.proofs.Groups.{further}
 use Rattle.access.proofs.Finding.{Here, here, Looked, looked, among-here, among-no-name, among-no-origin}
-use Rattle.access.proofs.transitions.is_among.Goals.{In-loop-i}
+use Rattle.access.proofs.transitions.is_among.Goals.{In-loop-i, then-file-at+else-file-at-2, else-file-at}
 use Rattle.access.proofs.transitions.is_among.Goals as goal
 
 -- the transition that is looked at
@@ -60,10 +60,10 @@ loop-i-preserved c =
       omega arith,
       further s.file.now _ l.loop-i.i l.loop-i.at c.u16_at-at.result l.loop-i.invariant.1 c.u16_at-at.ensures.0,
       λ a.
-          ⊎_elim
-          (λ w. among-no-origin (one v a) s.n s.name s.from w.0.taken w.2.left (l.loop-i.invariant.2 a))
-          (λ w. among-no-name (one v a) s.n s.name s.from w.left (l.loop-i.invariant.2 a))
-          c.if-file-at.branch,
+          elim c.if-file-at.branch [
+            | then-file-at+else-file-at-2 w ↦ among-no-origin (one v a) s.n s.name s.from w.if-file-at.true w.if-file-at-2.false (l.loop-i.invariant.2 a)
+            | else-file-at w ↦ among-no-name (one v a) s.n s.name s.from w.if-file-at.false (l.loop-i.invariant.2 a)
+          ],
     )
 
 pub returns : goal.returns
