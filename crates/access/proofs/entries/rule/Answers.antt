@@ -1,5 +1,4 @@
 -- The rules before it are passed.
-use borrow.Author.Rules.{rules}
 use Rattle.access.proofs.Items.{rule-before}
 use Rattle.access.proofs.entries.rule.Goals as goal
 

@@ -1,6 +1,5 @@
 -- The numbers of the rule's record.
 use native.Mathlib.Omega.{arith}
-use borrow.Author.Rules.{rules}
 use Prim.Native.Nat.{◌+◌, ◌≤◌}
 use lib.ListN.{length}
 use Rattle.access.proofs.Items.{rule-at, head_at}

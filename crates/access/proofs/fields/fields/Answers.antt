@@ -1,6 +1,5 @@
 -- Each field stands at its place in the file.
 use native.Mathlib.Omega.{arith}
-use borrow.Author.Rules.{rules}
 use Rattle.access.proofs.Trees.{tree-parts}
 use Rattle.access.proofs.Heads.{fields-same}
 use Rattle.access.proofs.Layouts.{twenty, balances}

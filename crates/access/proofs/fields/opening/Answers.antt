@@ -1,8 +1,7 @@
 -- The first i balances have been put in their places.
-use Prim.Native.Nat.{ℕ, ◌-◌, ◌≤◌}
+use Prim.Native.Nat.{ℕ}
 use mathlib.Core.Path.{◌≡◌, sym, ap, ◌∙◌}
 use native.Mathlib.Omega.{arith}
-use borrow.Author.Rules.{rules}
 use Rattle.rules.specs.Basics.{padded}
 use Rattle.access.specs.Answers.{numbers}
 use Rattle.access.proofs.Heads.{padded-none, padded-more}

@@ -1,10 +1,7 @@
-use Prim.Native.Nat.{ℕ, ◌-◌, ◌≤◌}
-use mathlib.Core.Path.{◌≡◌, sym, ap, ◌∙◌}
-use native.Mathlib.Omega.{arith}
-use borrow.Author.Rules.{rules}
+use Prim.Native.Nat.{◌-◌, ◌≤◌}
+use mathlib.Core.Path.{◌≡◌}
 use Rattle.rules.specs.Basics.{padded}
 use Rattle.access.specs.Answers.{numbers}
-use Rattle.access.proofs.Heads.{padded-none, padded-more}
 use Rattle.access.proofs.fields.opening.Given as goal
 
 abbrev pub invariant-loop-i : goal.invariant-loop-i

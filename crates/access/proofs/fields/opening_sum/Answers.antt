@@ -1,10 +1,5 @@
 -- What was added and the sum of what is left make the whole sum.
-use Prim.Native.Nat.{◌+◌, ◌-◌, ◌*◌, ◌≤◌}
-use mathlib.Core.Path.{◌≡◌}
 use native.Mathlib.Omega.{arith}
-use lib.ListN.{drop}
-use borrow.Author.Rules.{rules}
-use Rattle.rules.specs.Basics.{sum}
 use Rattle.access.proofs.Sums.{sum-from, sum-none, opening-eight}
 use Rattle.access.proofs.fields.opening_sum.Goals as goal
 

@@ -1,10 +1,7 @@
 use Prim.Native.Nat.{◌+◌, ◌-◌, ◌*◌, ◌≤◌}
 use mathlib.Core.Path.{◌≡◌}
-use native.Mathlib.Omega.{arith}
 use lib.ListN.{drop}
-use borrow.Author.Rules.{rules}
 use Rattle.rules.specs.Basics.{sum}
-use Rattle.access.proofs.Sums.{sum-from, sum-none, opening-eight}
 use Rattle.access.proofs.fields.opening_sum.Given as goal
 
 abbrev pub invariant-loop-i : goal.invariant-loop-i

@@ -1,10 +1,10 @@
 -- `count` records from the start on have been passed; while the kind comes, there is one more.
-use Prim.Native.Nat.{ℕ, ◌+◌, ◌-◌, ◌≤◌}
+use Prim.Native.Nat.{ℕ, ◌+◌, ◌≤◌}
 use mathlib.Core.Path.{◌≡◌, refl, sym, ap, ◌∙◌}
 use native.Mathlib.Omega.{arith}
 use lib.ListN.{length, take, drop}
 use Rattle.rules.specs.Basics.{number}
-use Rattle.access.specs.Places.{past, Children}
+use Rattle.access.specs.Places.{past}
 use Rattle.access.proofs.Groups.{room, further, goes_on, stops, group-same}
 use Rattle.access.proofs.places.children.Goals.{In-loop-end}
 use Rattle.access.proofs.places.children.Goals as goal

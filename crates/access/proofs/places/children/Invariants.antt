@@ -1,10 +1,7 @@
-use Prim.Native.Nat.{ℕ, ◌+◌, ◌-◌, ◌≤◌}
-use mathlib.Core.Path.{◌≡◌, refl, sym, ap, ◌∙◌}
-use native.Mathlib.Omega.{arith}
-use lib.ListN.{length, take, drop}
-use Rattle.rules.specs.Basics.{number}
+use Prim.Native.Nat.{◌-◌, ◌≤◌}
+use mathlib.Core.Path.{◌≡◌}
+use lib.ListN.{length}
 use Rattle.access.specs.Places.{past, Children}
-use Rattle.access.proofs.Groups.{room, further, goes_on, stops, group-same}
 use Rattle.access.proofs.places.children.Given as goal
 
 abbrev pub invariant-loop-end : goal.invariant-loop-end

@@ -1,5 +1,4 @@
 -- By the four bytes that a record begins with.
-use borrow.Author.Rules.{rules}
 use native.Mathlib.Omega.{arith}
 use Rattle.access.proofs.Groups.{comes-none, comes-some}
 use Rattle.access.proofs.places.comes.Goals as goal

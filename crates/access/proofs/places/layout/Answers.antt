@@ -3,7 +3,6 @@ use Prim.Native.Nat.{◌+◌, ◌*◌, ◌≤◌}
 use mathlib.Core.Path.{◌≡◌}
 use native.Mathlib.Omega.{arith}
 use lib.ListN.{length}
-use borrow.Author.Rules.{rules}
 use Rattle.access.specs.Trees.{TreeRead}
 use Rattle.access.proofs.Layouts.{found, twenty, initial-is, fallback-is, transitions-at, transitions-here, rows-here, rules-here}
 use Rattle.access.proofs.Layouts.{transitions-is, rows_is, rules-is, layout_is}

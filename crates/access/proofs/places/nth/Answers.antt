@@ -1,9 +1,8 @@
 -- k records have been passed.
-use Prim.Native.Nat.{ℕ, ◌+◌, ◌-◌, ◌≤◌}
+use Prim.Native.Nat.{ℕ, ◌+◌, ◌≤◌}
 use mathlib.Core.Path.{◌≡◌, refl, ap, ◌∙◌}
 use native.Mathlib.Omega.{arith}
 use lib.ListN.{length, take, drop}
-use borrow.Author.Rules.{rules}
 use Rattle.rules.specs.Basics.{number}
 use Rattle.access.specs.Places.{past}
 use Rattle.access.proofs.Groups.{room, further}

@@ -1,11 +1,6 @@
-use Prim.Native.Nat.{ℕ, ◌+◌, ◌-◌, ◌≤◌}
-use mathlib.Core.Path.{◌≡◌, refl, ap, ◌∙◌}
-use native.Mathlib.Omega.{arith}
-use lib.ListN.{length, take, drop}
-use borrow.Author.Rules.{rules}
-use Rattle.rules.specs.Basics.{number}
+use Prim.Native.Nat.{◌-◌, ◌≤◌}
+use mathlib.Core.Path.{◌≡◌}
 use Rattle.access.specs.Places.{past}
-use Rattle.access.proofs.Groups.{room, further}
 use Rattle.access.proofs.places.nth.Given as goal
 
 abbrev pub invariant-loop-k : goal.invariant-loop-k

@@ -1,5 +1,4 @@
 -- By the definition.
-use borrow.Author.Rules.{rules}
 use Rattle.rules.specs.Reading.{size_of}
 use Rattle.access.specs.Places.{action_at}
 use Rattle.access.proofs.transitions.action_at.Goals as goal

@@ -1,12 +1,10 @@
 -- What is found is what is found among the transitions that are left, by whether one that was passed bears the name.
-use Prim.Native.Nat.{◌+◌, ◌-◌, ◌≤◌}
+use Prim.Native.Nat.{◌+◌}
 use mathlib.Core.Path.{◌≡◌, refl, sym, ap, ◌∙◌}
 use mathlib.Core.Bool.{Bool}
-use mathlib.Core.Logic.{⊎_elim}
 use mathlib.Core.Option.{none}
 use native.Mathlib.Omega.{arith}
 use lib.ListN.{drop}
-use borrow.Author.Rules.{rules}
 use Rattle.rules.specs.Calling.{known, transition_of}
 use Rattle.access.specs.declared.Found.{Found}
 use Rattle.access.specs.Trees.{TreeRead}

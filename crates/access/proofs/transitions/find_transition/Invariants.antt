@@ -1,18 +1,11 @@
-use Prim.Native.Nat.{◌+◌, ◌-◌, ◌≤◌}
-use mathlib.Core.Path.{◌≡◌, refl, sym, ap, ◌∙◌}
-use mathlib.Core.Bool.{Bool}
-use mathlib.Core.Logic.{⊎_elim}
-use mathlib.Core.Option.{none}
-use native.Mathlib.Omega.{arith}
+use Prim.Native.Nat.{◌-◌, ◌≤◌}
+use mathlib.Core.Path.{◌≡◌}
 use lib.ListN.{drop}
-use borrow.Author.Rules.{rules}
 use Rattle.rules.specs.Calling.{known, transition_of}
-use Rattle.access.specs.declared.Found.{Found}
 use Rattle.access.specs.Trees.{TreeRead}
 use Rattle.access.specs.Places.{past}
 use Rattle.access.specs.Answers.{found_of}
-use Rattle.access.proofs.Groups.{further}
-use Rattle.access.proofs.Finding.{Here, here, Looked, looked, all-passed, Left, find-all, find-here, find-other, find_none, find-end}
+use Rattle.access.proofs.Finding.{Left}
 use Rattle.access.proofs.transitions.find_transition.Given as goal
 
 abbrev pub invariant-loop-i : goal.invariant-loop-i

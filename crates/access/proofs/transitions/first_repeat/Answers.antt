@@ -1,13 +1,11 @@
 -- None of the transitions that were passed repeats an earlier one.
-use Prim.Native.Nat.{◌-◌, ◌≤◌}
-use mathlib.Core.Path.{◌≡◌, refl, sym, ap, ◌∙◌}
+use mathlib.Core.Path.{refl, sym, ap, ◌∙◌}
 use native.Mathlib.Omega.{arith}
-use borrow.Author.Rules.{rules}
 use Rattle.access.specs.Trees.{TreeRead}
 use Rattle.access.specs.Places.{past}
 use Rattle.access.specs.Answers.{repeat_of}
 use Rattle.access.proofs.Groups.{further}
-use Rattle.access.proofs.Finding.{Here, here, Looked, looked, all-passed, Passed, passed_none, repeat-here, repeat-next, repeat-end}
+use Rattle.access.proofs.Finding.{Here, here, Looked, looked, all-passed, passed_none, repeat-here, repeat-next, repeat-end}
 use Rattle.access.proofs.transitions.first_repeat.Goals.{In-loop-i}
 use Rattle.access.proofs.transitions.first_repeat.Goals as goal
 

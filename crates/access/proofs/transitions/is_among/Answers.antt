@@ -1,12 +1,9 @@
 -- None of the transitions that were passed has the name and origin.
-use Prim.Native.Nat.{ℕ, ◌-◌, ◌≤◌}
+use Prim.Native.Nat.{ℕ}
 use mathlib.Core.Path.{◌≡◌, refl, sym, ap, ◌∙◌}
-use mathlib.Core.Logic.{⊎_elim}
 use native.Mathlib.Omega.{arith}
 use lib.ListN.{take}
-use borrow.Author.Rules.{rules}
 use Rattle.rules.specs.Basics.{any}
-use mathlib.Core.Bool.{false}
 use Rattle.access.specs.Trees.{TreeRead}
 use Rattle.access.specs.Places.{past}
 use Rattle.access.specs.Answers.{same}

@@ -1,16 +1,11 @@
-use Prim.Native.Nat.{ℕ, ◌-◌, ◌≤◌}
-use mathlib.Core.Path.{◌≡◌, refl, sym, ap, ◌∙◌}
-use mathlib.Core.Logic.{⊎_elim}
-use native.Mathlib.Omega.{arith}
+use Prim.Native.Nat.{◌-◌, ◌≤◌}
+use mathlib.Core.Path.{◌≡◌}
 use lib.ListN.{take}
-use borrow.Author.Rules.{rules}
 use Rattle.rules.specs.Basics.{any}
 use mathlib.Core.Bool.{false}
 use Rattle.access.specs.Trees.{TreeRead}
 use Rattle.access.specs.Places.{past}
 use Rattle.access.specs.Answers.{same}
-use Rattle.access.proofs.Groups.{further}
-use Rattle.access.proofs.Finding.{Here, here, Looked, looked, among-here, among-no-name, among-no-origin}
 use Rattle.access.proofs.transitions.is_among.Given as goal
 
 abbrev pub invariant-loop-i : goal.invariant-loop-i
