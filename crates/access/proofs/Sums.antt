@@ -1,9 +1,9 @@
 -- The sum of the opening balances, of which there are eight.
 -- Assumes nothing.
-use mathlib.Core.Path.{◌≡◌, sym, ◌∙◌}
+use mathlib.Core.Path.{◌≡◌}
 use Prim.Native.Nat.{ℕ, ◌+◌, ◌≤◌, ◌<◌}
-use mathlib.Core.List.{List, map}
-use lib.ListN.{length, get_or, drop, drop_of_length-le, length-map}
+use mathlib.Core.List.{List}
+use lib.ListN.{length, get_or, drop, drop_of_length-le}
 use lib.Seq.{drop-cons}
 use native.Mathlib.Numerals.{add-one}
 use mir.Syntax.{w32}
@@ -26,4 +26,4 @@ sum-none l i h = rw (drop_of_length-le l h)
 -- what a function is given
 pub opening-eight : (f : Fields) (vs : List Val) → Is (D.row Fieldses.the_type) f vs → length f.opening ≡ 8
 opening-eight f vs p =
-    sym (length-map f.opening (λ v. v)) ∙ good_length (e_int w32) 8 (map (λ v. v) f.opening) _ p.1.1.1.1.1.1.1.1.1.0
+    good_length (e_int w32) 8 f.opening _ p.1.1.1.1.1.1.1.1.1.0

@@ -1,0 +1,63 @@
+-- `count` records from the start on have been passed; while the kind comes, there is one more.
+use Prim.Native.Nat.{ℕ, ◌+◌, ◌≤◌}
+use mathlib.Core.Path.{◌≡◌, refl, sym, ap, ◌∙◌}
+use native.Mathlib.Omega.{arith}
+use lib.ListN.{length, take, drop}
+use Rattle.rules.specs.Basics.{number}
+use Rattle.access.specs.Places.{past}
+use Rattle.access.proofs.Groups.{room, further, goes_on, stops, group-same}
+use Rattle.access.proofs.places.children.Goals.{In-loop-end}
+use Rattle.access.proofs.places.children.Goals as goal
+
+-- one more record, of n bytes
+one :
+    (c : In-loop-end) (n : ℕ) →
+    let l = c in
+    let file = l.args.file.now in
+    n ≡ number (take 2 (drop l.loop-end.end file)) → (4 ≤ n) × (l.loop-end.end + n ≤ length file)
+one c n e =
+    let l = c in
+    let g = l.requires in
+    let v = l.loop-end.invariant in
+    let h = goes_on g l.loop-end.count l.loop-end.end v.0 (v.3 g) (sym c.loop-end-test.true ∙ c.comes.ensures) in
+    room _ l.loop-end.count l.loop-end.end n v.0 e (g.row l.loop-end.count h)
+
+pub loop-end-init : goal.loop-end-init
+unfolding past
+loop-end-init c = (refl, c.requires.within, omega arith, λ g. omega arith)
+
+pub u16_at-end-requires : goal.u16_at-end-requires
+u16_at-end-requires c = omega (arith, one c _ refl)
+
+pub overflow_add-end : goal.overflow_add-end
+overflow_add-end c = omega (arith, one (goal.at.overflow_add-end c).In-loop-end _ c.u16_at-end.ensures.0)
+
+pub overflow_add-count : goal.overflow_add-count
+overflow_add-count c = omega (arith, one (goal.at.overflow_add-count c).In-loop-end _ c.u16_at-end.ensures.0)
+
+pub loop-end-smaller : goal.loop-end-smaller
+loop-end-smaller c = omega (arith, one (goal.at.loop-end-smaller c).In-loop-end _ c.u16_at-end.ensures.0)
+
+pub loop-end-preserved : goal.loop-end-preserved
+loop-end-preserved c =
+    let l = c in
+    let a = l.args in
+    let v = l.loop-end.invariant in
+    let o = one (goal.at.loop-end-preserved c).In-loop-end _ c.u16_at-end.ensures.0 in (
+      further a.file.now a.at l.loop-end.count l.loop-end.end c.u16_at-end.result v.0 c.u16_at-end.ensures.0,
+      o.1,
+      omega (arith, o.0, v.2),
+      λ g. omega (arith, goes_on g l.loop-end.count l.loop-end.end v.0 (v.3 g) (sym c.loop-end-test.true ∙ c.comes.ensures)),
+    )
+
+pub returns : goal.returns
+returns c =
+    let l = c in
+    let a = l.args in
+    let v = l.loop-end.invariant in
+    λ g.
+    let z = stops g l.loop-end.count l.loop-end.end v.0 (v.3 g) (sym c.loop-end-test.false ∙ c.comes.ensures) in
+    group-same a.at z (v.0 ∙ ap (past a.file.now a.at) z)
+
+pub comes-requires : goal.comes-requires
+comes-requires c = c.loop-end.invariant.1
