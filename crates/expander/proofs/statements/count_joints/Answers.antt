@@ -8,62 +8,43 @@ use Rattle.rules.specs.Expanding.{joints}
 use Rattle.records.specs.Acceptance.{GoodAll}
 use Rattle.records.specs.Checking.{from}
 use Rattle.records.proofs.Parts.{from-drop, from-length}
-use Rattle.records.proofs.GoodBlocks.{moved, Turn, turn}
-use Rattle.expander.proofs.Counts.{size_is, joints-last, joints-more}
+use Rattle.records.proofs.GoodBlocks.{moved, turn}
+use Rattle.expander.proofs.Counts.{joints-last, joints-more}
+use Rattle.expander.proofs.Blocks.{next-turn}
 use Rattle.expander.proofs.statements.count_joints.Goals as goal
-
--- a turn, for a tree that is read
-here :
-    (c : goal.After-u16_at-k) →
-    let h = c.before.before in
-    let s = h.args.s.now in
-    (a : GoodAll s) →
-    let b = (h.loop-k.invariant.2 a).0 in
-    Turn h.loop-k.k c.u16_at-k.result s b.at b.tree
-here c a =
-    let h = c in
-    let s = h.args.s.now in
-    turn h.loop-k.k c.u16_at-k.result s (size_is (from h.loop-k.k s) c.u16_at-k.ensures.0) (h.loop-k.invariant.2 a).0
-
-mine :
-    (c : goal.After-u16_at-k) →
-    let h = c in
-    let a = h.requires.0 in
-    let b = (h.loop-k.invariant.2 a).0 in
-    Turn h.loop-k.k c.u16_at-k.result h.args.s.now b.at b.tree
-mine c = here c c.requires.0
 
 pub loop-k-init : goal.loop-k-init
 loop-k-init c = (omega arith, omega arith, λ a. (moved (sym (from-drop 0 c.args.s.now)) a, omega arith))
 
 pub u16_at-k-requires : goal.u16_at-k-requires
 u16_at-k-requires c =
-    let h = c in
-    let s = h.args.s.now in
-    let t = turn h.loop-k.k _ s refl (h.loop-k.invariant.2 h.requires.0).0 in
-    omega (arith, from-length h.loop-k.k s, t.low, t.fits)
+    let s = c.args.s.now in
+    let t = turn c.loop-k.k _ s refl (c.loop-k.invariant.2 c.requires.0).0 in
+    omega (arith, from-length c.loop-k.k s, t.low, t.fits)
 
 pub overflow_add-k : goal.overflow_add-k
-overflow_add-k c = omega (arith, (mine c).ranges)
+overflow_add-k c = omega (arith, (next-turn c.loop-k.k c.args.s.now c.u16_at-k.ensures.0 (c.loop-k.invariant.2 c.requires.0).0).fits)
 
 pub returns-then-s-k : goal.returns-then-s-k
 returns-then-s-k c =
     λ a.
-    let t = here c.before a in
-    omega (arith, (c.loop-k.invariant.2 a).1, joints-last t.first.tree (t.ends c.if-s-k.true))
-
-pub overflow_add-count : goal.overflow_add-count
-overflow_add-count c = omega arith
+    let l = c.loop-k.invariant.2 a in
+    let t = next-turn c.loop-k.k c.args.s.now c.u16_at-k.ensures.0 l.0 in
+    omega (arith, l.1, joints-last t.first.tree (t.ends c.if-s-k.true))
 
 pub loop-k-smaller : goal.loop-k-smaller
-loop-k-smaller c = omega (arith, (mine c.before).low, (mine c.before).fits)
+loop-k-smaller c =
+    let t = next-turn c.loop-k.k c.args.s.now c.u16_at-k.ensures.0 (c.loop-k.invariant.2 c.requires.0).0 in
+    omega (arith, t.low, t.fits)
 
 pub loop-k-preserved : goal.loop-k-preserved
-loop-k-preserved c = (
-  (mine c.before).fits,
-  omega (arith, (mine c.before).low, c.loop-k.invariant.1),
-  λ a.
-      let t = here c.before a in
-      let g = t.goes c.if-s-k.false in
-      (g.0, omega (arith, (c.loop-k.invariant.2 a).1, joints-more t.first.tree g.0.tree g.2)),
-)
+loop-k-preserved c =
+    let t = next-turn c.loop-k.k c.args.s.now c.u16_at-k.ensures.0 (c.loop-k.invariant.2 c.requires.0).0 in (
+      t.fits,
+      omega (arith, t.low, c.loop-k.invariant.1),
+      λ a.
+          let l = c.loop-k.invariant.2 a in
+          let x = next-turn c.loop-k.k c.args.s.now c.u16_at-k.ensures.0 l.0 in
+          let g = x.goes c.if-s-k.false in
+          (g.0, omega (arith, l.1, joints-more x.first.tree g.0.tree g.2)),
+    )
