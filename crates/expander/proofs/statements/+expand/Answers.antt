@@ -1,22 +1,17 @@
 -- The functions that call one another meet their contracts.
-use Prim.Native.Nat.{ℕ, ◌-◌, ◌≤◌, ◌+◌, ◌*◌, ◌<◌}
+use Prim.Native.Nat.{ℕ, ◌+◌}
 use mathlib.Core.Path.{◌≡◌, refl, ◌∙◌, sym}
 use native.Mathlib.Omega.{arith}
-use lib.ListN.{length, take, drop}
-use Rattle.rules.specs.Syntax.{block, if_then, while}
-use Rattle.records.specs.Acceptance.{GoodAll, Good}
-use Rattle.records.specs.Checking.{from}
+use lib.ListN.{take, drop}
 use Rattle.records.proofs.Parts.{from-length, part_length}
-use Rattle.records.proofs.GoodBlocks.{Turn, turn}
-use Rattle.expander.specs.Writing.{Fit, Expandable}
+use Rattle.records.proofs.GoodBlocks.{turn}
 use Rattle.expander.proofs.Counts.{size_is, kind-is, made-few}
-use Rattle.expander.proofs.Blocks.{made-block, Left, starts, first-fit, ends-block, joint-fits, goes_on, next-turn}
-use borrow.Author.Rules.{rules}
-use Rattle.records.proofs.Goods.{Alternative, sized, else-tree, Repetition, for-tree, Block, Conditional, block-tree, if-tree, while-tree, other-tree}
+use Rattle.expander.proofs.Blocks.{made-block, starts, first-fit, ends-block, joint-fits, goes_on, next-turn}
+use Rattle.records.proofs.Goods.{sized, else-tree, for-tree, block-tree, if-tree, while-tree, other-tree}
 use Rattle.expander.proofs.Fits.{else-made, else-steps, yes-fit, no-fit, for-made, for-steps, body-fit, refit, one-fits, block_fit, if-fit, while-fit}
 use Rattle.expander.proofs.Forms.{else-expanded, for-expanded, part-wrote, set-expanded, transfer-expanded, require-expanded, return-expanded, if-expanded, while-expanded}
 use mathlib.Core.List.{List}
-use Rattle.rules.specs.Reading.{size_of, kind_of}
+use Rattle.rules.specs.Reading.{kind_of}
 use Rattle.rules.specs.Basics.{number}
 use Rattle.expander.proofs.statements.+expand.Goals as goal
 
@@ -122,8 +117,9 @@ expand_else-overflow_add-node t c =
 
 pub expand_else-write_condition-first-requires : goal.expand_else-write_condition-first-requires
 expand_else-write_condition-first-requires t c =
+    let x = else-tree c.requires.0 c.requires.2.0 c.requires.1 c.u16_at-b.result c.u16_at.result c.u16_at-b.ensures.0 c.u16_at.ensures.0 in
     let f = c.requires.2.1 in
-    (omega (arith, f.room, else-steps (else-tree c.requires.0 c.requires.2.0 c.requires.1 c.u16_at-b.result c.u16_at.result c.u16_at-b.ensures.0 c.u16_at.ensures.0)), omega (arith, f.offsets, (else-tree c.requires.0 c.requires.2.0 c.requires.1 c.u16_at-b.result c.u16_at.result c.u16_at-b.ensures.0 c.u16_at.ensures.0).eight, (sized c.requires.0 c.requires.2.0).1))
+    (omega (arith, f.room, else-steps x), omega (arith, f.offsets, x.eight, (sized c.requires.0 c.requires.2.0).1))
 
 pub expand_else-slice_bounds-expand_statement-count : goal.expand_else-slice_bounds-expand_statement-count
 expand_else-slice_bounds-expand_statement-count t c = omega (arith, (else-tree c.requires.0 c.requires.2.0 c.requires.1 c.u16_at-b.result c.u16_at.result c.u16_at-b.ensures.0 c.u16_at.ensures.0).mid)
@@ -140,10 +136,11 @@ expand_else-overflow_add-at-2 t c =
 
 pub expand_else-expand_statement-second-requires : goal.expand_else-expand_statement-second-requires
 expand_else-expand_statement-second-requires t c =
+    let w = sized c.requires.0 c.requires.2.0 in
     let v = c.write_condition-first in
-    let x = (else-tree c.requires.0 c.requires.2.0 c.requires.1 c.u16_at-b.result c.u16_at.result c.u16_at-b.ensures.0 c.u16_at.ensures.0) in (
-      omega (arith, part_length (4 + c.u16_at-b.result) c.args.n c.args.s.now (sized c.requires.0 c.requires.2.0).1, (sized c.requires.0 c.requires.2.0).1, x.mid, c.decreases),
-      (x.yes, yes-fit (sized c.requires.0 c.requires.2.0).1 c.requires.2.1 x (omega (arith, v.ensures.node)) v.ensures.step v.auto.words),
+    let x = else-tree c.requires.0 c.requires.2.0 c.requires.1 c.u16_at-b.result c.u16_at.result c.u16_at-b.ensures.0 c.u16_at.ensures.0 in (
+      omega (arith, part_length (4 + c.u16_at-b.result) c.args.n c.args.s.now w.1, w.1, x.mid, c.decreases),
+      (x.yes, yes-fit w.1 c.requires.2.1 x (omega (arith, v.ensures.node)) v.ensures.step v.auto.words),
     )
 
 pub expand_else-slice_bounds-expand_statement-count-2 : goal.expand_else-slice_bounds-expand_statement-count-2
@@ -161,14 +158,15 @@ expand_else-overflow_add-at-3 t c =
 
 pub expand_else-expand_statement-requires : goal.expand_else-expand_statement-requires
 expand_else-expand_statement-requires t c =
+    let w = sized c.requires.0 c.requires.2.0 in
     let v = c.write_condition-first in
     let f = c.requires.2.1 in
-    let x = (else-tree c.requires.0 c.requires.2.0 c.requires.1 c.u16_at-b.result c.u16_at.result c.u16_at-b.ensures.0 c.u16_at.ensures.0) in
-    let y = c.expand_statement-second.ensures x.yes (yes-fit (sized c.requires.0 c.requires.2.0).1 f x (omega (arith, v.ensures.node)) v.ensures.step v.auto.words) in (
-      omega (arith, part_length (4 + c.u16_at-b.result + c.u16_at.result) c.args.n c.args.s.now (sized c.requires.0 c.requires.2.0).1, (sized c.requires.0 c.requires.2.0).1, x.mid, x.fits, c.decreases),
+    let x = else-tree c.requires.0 c.requires.2.0 c.requires.1 c.u16_at-b.result c.u16_at.result c.u16_at-b.ensures.0 c.u16_at.ensures.0 in
+    let y = c.expand_statement-second.ensures x.yes (yes-fit w.1 f x (omega (arith, v.ensures.node)) v.ensures.step v.auto.words) in (
+      omega (arith, part_length (4 + c.u16_at-b.result + c.u16_at.result) c.args.n c.args.s.now w.1, w.1, x.mid, x.fits, c.decreases),
       (
         x.no,
-        no-fit (sized c.requires.0 c.requires.2.0).1 f x (omega (arith, v.ensures.node, y.node)) (omega (arith, v.ensures.step, y.step)) (c.expand_statement-second.auto.words ∙ v.auto.words),
+        no-fit w.1 f x (omega (arith, v.ensures.node, y.node)) (omega (arith, v.ensures.step, y.step)) (c.expand_statement-second.auto.words ∙ v.auto.words),
       ),
     )
 
@@ -179,12 +177,13 @@ expand_else-shape_of-words t c =
 pub expand_else-returns : goal.expand_else-returns
 expand_else-returns t c =
     λ a f.
+    let w = sized c.requires.0 c.requires.2.0 in
     let v = c.write_condition-first in
-    let x = (else-tree c.requires.0 a c.requires.1 c.u16_at-b.result c.u16_at.result c.u16_at-b.ensures.0 c.u16_at.ensures.0) in
-    let y = c.expand_statement-second.ensures x.yes (yes-fit (sized c.requires.0 c.requires.2.0).1 f x (omega (arith, v.ensures.node)) v.ensures.step v.auto.words) in
+    let x = else-tree c.requires.0 a c.requires.1 c.u16_at-b.result c.u16_at.result c.u16_at-b.ensures.0 c.u16_at.ensures.0 in
+    let y = c.expand_statement-second.ensures x.yes (yes-fit w.1 f x (omega (arith, v.ensures.node)) v.ensures.step v.auto.words) in
     else-expanded x f v.ensures y
     (c.expand_statement.ensures x.no
-    (no-fit (sized c.requires.0 c.requires.2.0).1 f x (omega (arith, v.ensures.node, y.node)) (omega (arith, v.ensures.step, y.step)) (c.expand_statement-second.auto.words ∙ v.auto.words)))
+    (no-fit w.1 f x (omega (arith, v.ensures.node, y.node)) (omega (arith, v.ensures.step, y.step)) (c.expand_statement-second.auto.words ∙ v.auto.words)))
 
 -- `expand_for`
 
@@ -222,7 +221,7 @@ expand_for-overflow_add-node t c = omega (arith, for-made (for-tree c.requires.0
 pub expand_for-write_one-first-requires : goal.expand_for-write_one-first-requires
 expand_for-write_one-first-requires t c =
     let f = c.requires.2.1 in
-    let x = (for-tree c.requires.0 c.requires.2.0 c.requires.1 c.u16_at-b.result c.u16_at.result c.u16_at-2.result c.u16_at-b.ensures.0 c.u16_at.ensures.0 c.u16_at-2.ensures.0) in
+    let x = for-tree c.requires.0 c.requires.2.0 c.requires.1 c.u16_at-b.result c.u16_at.result c.u16_at-2.result c.u16_at-b.ensures.0 c.u16_at.ensures.0 c.u16_at-2.ensures.0 in
     (omega (arith, f.room, for-steps x), omega (arith, f.offsets, x.eight, (sized c.requires.0 c.requires.2.0).1))
 
 pub expand_for-overflow_add-at-2 : goal.expand_for-overflow_add-at-2
@@ -232,7 +231,7 @@ expand_for-overflow_add-at-2 t c =
 pub expand_for-write_condition-second-requires : goal.expand_for-write_condition-second-requires
 expand_for-write_condition-second-requires t c =
     let f = c.requires.2.1 in
-    let x = (for-tree c.requires.0 c.requires.2.0 c.requires.1 c.u16_at-b.result c.u16_at.result c.u16_at-2.result c.u16_at-b.ensures.0 c.u16_at.ensures.0 c.u16_at-2.ensures.0) in
+    let x = for-tree c.requires.0 c.requires.2.0 c.requires.1 c.u16_at-b.result c.u16_at.result c.u16_at-2.result c.u16_at-b.ensures.0 c.u16_at.ensures.0 c.u16_at-2.ensures.0 in
     let v = c.write_one-first in
     (omega (arith, f.room, for-steps x, v.ensures.step, v.auto.words), omega (arith, f.offsets, x.second, (sized c.requires.0 c.requires.2.0).1))
 
@@ -251,15 +250,16 @@ expand_for-overflow_add-at-3 t c =
 
 pub expand_for-expand_statement-third-requires : goal.expand_for-expand_statement-third-requires
 expand_for-expand_statement-third-requires t c =
+    let w = sized c.requires.0 c.requires.2.0 in
     let v = c.write_condition-second in
     let z = c.write_one-first in
     let n = c.args.n in
-    let x = (for-tree c.requires.0 c.requires.2.0 c.requires.1 c.u16_at-b.result c.u16_at.result c.u16_at-2.result c.u16_at-b.ensures.0 c.u16_at.ensures.0 c.u16_at-2.ensures.0) in
+    let x = for-tree c.requires.0 c.requires.2.0 c.requires.1 c.u16_at-b.result c.u16_at.result c.u16_at-2.result c.u16_at-b.ensures.0 c.u16_at.ensures.0 c.u16_at-2.ensures.0 in
     let b = 4 + c.u16_at-b.result + c.u16_at.result + c.u16_at-2.result in (
-      omega (arith, part_length b n c.args.s.now (sized c.requires.0 c.requires.2.0).1, (sized c.requires.0 c.requires.2.0).1, x.eight, x.fits, c.decreases),
+      omega (arith, part_length b n c.args.s.now w.1, w.1, x.eight, x.fits, c.decreases),
       (
         x.body,
-        body-fit (sized c.requires.0 c.requires.2.0).1 c.requires.2.1 x (omega (arith, z.ensures.node, v.ensures.node)) (omega (arith, z.ensures.step, v.ensures.step)) (v.auto.words ∙ z.auto.words),
+        body-fit w.1 c.requires.2.1 x (omega (arith, z.ensures.node, v.ensures.node)) (omega (arith, z.ensures.step, v.ensures.step)) (v.auto.words ∙ z.auto.words),
       ),
     )
 
@@ -269,16 +269,17 @@ expand_for-overflow_add-at-4 t c =
 
 pub expand_for-write_one-requires : goal.expand_for-write_one-requires
 expand_for-write_one-requires t c =
+    let w = sized c.requires.0 c.requires.2.0 in
     let v = c.write_condition-second in
     let z = c.write_one-first in
     let f = c.requires.2.1 in
-    let x = (for-tree c.requires.0 c.requires.2.0 c.requires.1 c.u16_at-b.result c.u16_at.result c.u16_at-2.result c.u16_at-b.ensures.0 c.u16_at.ensures.0 c.u16_at-2.ensures.0) in
+    let x = for-tree c.requires.0 c.requires.2.0 c.requires.1 c.u16_at-b.result c.u16_at.result c.u16_at-2.result c.u16_at-b.ensures.0 c.u16_at.ensures.0 c.u16_at-2.ensures.0 in
     let same = v.auto.words ∙ z.auto.words in
     let y =
     c.expand_statement-third.ensures x.body
-    (body-fit (sized c.requires.0 c.requires.2.0).1 f x (omega (arith, z.ensures.node, v.ensures.node)) (omega (arith, z.ensures.step, v.ensures.step)) same) in (
+    (body-fit w.1 f x (omega (arith, z.ensures.node, v.ensures.node)) (omega (arith, z.ensures.step, v.ensures.step)) same) in (
       omega (arith, f.room, for-steps x, z.ensures.step, v.ensures.step, y.step, c.expand_statement-third.auto.words, same),
-      omega (arith, f.offsets, x.third, (sized c.requires.0 c.requires.2.0).1),
+      omega (arith, f.offsets, x.third, w.1),
     )
 
 pub expand_for-shape_of-words : goal.expand_for-shape_of-words
@@ -290,7 +291,7 @@ expand_for-returns t c =
     λ d f.
     let v = c.write_condition-second in
     let z = c.write_one-first in
-    let x = (for-tree c.requires.0 d c.requires.1 c.u16_at-b.result c.u16_at.result c.u16_at-2.result c.u16_at-b.ensures.0 c.u16_at.ensures.0 c.u16_at-2.ensures.0) in
+    let x = for-tree c.requires.0 d c.requires.1 c.u16_at-b.result c.u16_at.result c.u16_at-2.result c.u16_at-b.ensures.0 c.u16_at.ensures.0 c.u16_at-2.ensures.0 in
     for-expanded x f z.ensures v.ensures
     (c.expand_statement-third.ensures x.body
     (body-fit (sized c.requires.0 c.requires.2.0).1 f x (omega (arith, z.ensures.node, v.ensures.node)) (omega (arith, z.ensures.step, v.ensures.step)) (v.auto.words ∙ z.auto.words)))
@@ -394,13 +395,15 @@ expand_statement-slice_bounds-expand_block-end t c = (sized (size_is c.args.s.no
 
 pub expand_statement-overflow_add-at : goal.expand_statement-overflow_add-at
 expand_statement-overflow_add-at t c =
-    omega (arith, c.requires.1.offsets, (sized (size_is c.args.s.now c.u16_at-n.ensures.0) c.requires.0).0, (sized (size_is c.args.s.now c.u16_at-n.ensures.0) c.requires.0).1)
+    let w = sized (size_is c.args.s.now c.u16_at-n.ensures.0) c.requires.0 in
+    omega (arith, c.requires.1.offsets, w.0, w.1)
 
 pub expand_statement-expand_block-requires : goal.expand_statement-expand_block-requires
 expand_statement-expand_block-requires t c =
-    let x = (block-tree (size_is c.args.s.now c.u16_at-n.ensures.0) c.requires.0 (kind-of c.args.s.now c.u16_at.ensures.0 c.in-32.is)) in (
-      omega (arith, part_length 4 c.u16_at-n.result c.args.s.now (sized (size_is c.args.s.now c.u16_at-n.ensures.0) c.requires.0).1, (sized (size_is c.args.s.now c.u16_at-n.ensures.0) c.requires.0).1, (sized (size_is c.args.s.now c.u16_at-n.ensures.0) c.requires.0).0, c.decreases),
-      (x.inner, block_fit (sized (size_is c.args.s.now c.u16_at-n.ensures.0) c.requires.0).1 c.requires.1 (sized (size_is c.args.s.now c.u16_at-n.ensures.0) c.requires.0).0 x),
+    let w = sized (size_is c.args.s.now c.u16_at-n.ensures.0) c.requires.0 in
+    let x = block-tree (size_is c.args.s.now c.u16_at-n.ensures.0) c.requires.0 (kind-of c.args.s.now c.u16_at.ensures.0 c.in-32.is) in (
+      omega (arith, part_length 4 c.u16_at-n.result c.args.s.now w.1, w.1, w.0, c.decreases),
+      (x.inner, block_fit w.1 c.requires.1 w.0 x),
     )
 
 pub expand_statement-shape_of-words-in-32 : goal.expand_statement-shape_of-words-in-32
@@ -409,8 +412,9 @@ expand_statement-shape_of-words-in-32 t c = c.expand_block.auto.words
 pub expand_statement-returns-in-32 : goal.expand_statement-returns-in-32
 expand_statement-returns-in-32 t c =
     λ a f.
-    let x = (block-tree (size_is c.args.s.now c.u16_at-n.ensures.0) a (kind-of c.args.s.now c.u16_at.ensures.0 c.in-32.is)) in
-    rw x.is (c.expand_block.ensures x.inner (block_fit (sized (size_is c.args.s.now c.u16_at-n.ensures.0) c.requires.0).1 f (sized (size_is c.args.s.now c.u16_at-n.ensures.0) c.requires.0).0 x))
+    let w = sized (size_is c.args.s.now c.u16_at-n.ensures.0) c.requires.0 in
+    let x = block-tree (size_is c.args.s.now c.u16_at-n.ensures.0) a (kind-of c.args.s.now c.u16_at.ensures.0 c.in-32.is) in
+    rw x.is (c.expand_block.ensures x.inner (block_fit w.1 f w.0 x))
 
 pub expand_statement-u16_at-b-requires : goal.expand_statement-u16_at-b-requires
 expand_statement-u16_at-b-requires t c =
@@ -431,13 +435,15 @@ expand_statement-overflow_add-at-in-33 t c =
 
 pub expand_statement-overflow_add-at-in-33-2 : goal.expand_statement-overflow_add-at-in-33-2
 expand_statement-overflow_add-at-in-33-2 t c =
-    omega (arith, c.requires.1.offsets, (sized (size_is c.args.s.now c.u16_at-n.ensures.0) c.requires.0).0, (sized (size_is c.args.s.now c.u16_at-n.ensures.0) c.requires.0).1)
+    let w = sized (size_is c.args.s.now c.u16_at-n.ensures.0) c.requires.0 in
+    omega (arith, c.requires.1.offsets, w.0, w.1)
 
 pub expand_statement-expand_part-requires : goal.expand_statement-expand_part-requires
 expand_statement-expand_part-requires t c =
-    let x = (if-tree (size_is c.args.s.now c.u16_at-n.ensures.0) c.requires.0 (kind-of c.args.s.now c.u16_at.ensures.0 c.in-33.is) c.u16_at-b.result c.u16_at-b.ensures.0) in (
-      omega (arith, part_length (4 + c.u16_at-b.result) c.u16_at-n.result c.args.s.now (sized (size_is c.args.s.now c.u16_at-n.ensures.0) c.requires.0).1, (sized (size_is c.args.s.now c.u16_at-n.ensures.0) c.requires.0).1, x.fits, x.eight, c.decreases),
-      (omega arith, (x.body, if-fit (sized (size_is c.args.s.now c.u16_at-n.ensures.0) c.requires.0).1 c.requires.1 x)),
+    let w = sized (size_is c.args.s.now c.u16_at-n.ensures.0) c.requires.0 in
+    let x = if-tree (size_is c.args.s.now c.u16_at-n.ensures.0) c.requires.0 (kind-of c.args.s.now c.u16_at.ensures.0 c.in-33.is) c.u16_at-b.result c.u16_at-b.ensures.0 in (
+      omega (arith, part_length (4 + c.u16_at-b.result) c.u16_at-n.result c.args.s.now w.1, w.1, x.fits, x.eight, c.decreases),
+      (omega arith, (x.body, if-fit w.1 c.requires.1 x)),
     )
 
 pub expand_statement-shape_of-words-in-33 : goal.expand_statement-shape_of-words-in-33
@@ -446,7 +452,7 @@ expand_statement-shape_of-words-in-33 t c = c.expand_part.auto.words
 pub expand_statement-returns-in-33 : goal.expand_statement-returns-in-33
 expand_statement-returns-in-33 t c =
     λ a f.
-    let x = (if-tree (size_is c.args.s.now c.u16_at-n.ensures.0) a (kind-of c.args.s.now c.u16_at.ensures.0 c.in-33.is) c.u16_at-b.result c.u16_at-b.ensures.0) in
+    let x = if-tree (size_is c.args.s.now c.u16_at-n.ensures.0) a (kind-of c.args.s.now c.u16_at.ensures.0 c.in-33.is) c.u16_at-b.result c.u16_at-b.ensures.0 in
     if-expanded f.here x (c.expand_part.ensures x.body (if-fit (sized (size_is c.args.s.now c.u16_at-n.ensures.0) c.requires.0).1 f x))
 
 pub expand_statement-u16_at-b-requires-in-35 : goal.expand_statement-u16_at-b-requires-in-35
@@ -468,13 +474,15 @@ expand_statement-overflow_add-at-in-35 t c =
 
 pub expand_statement-overflow_add-at-in-35-2 : goal.expand_statement-overflow_add-at-in-35-2
 expand_statement-overflow_add-at-in-35-2 t c =
-    omega (arith, c.requires.1.offsets, (sized (size_is c.args.s.now c.u16_at-n.ensures.0) c.requires.0).0, (sized (size_is c.args.s.now c.u16_at-n.ensures.0) c.requires.0).1)
+    let w = sized (size_is c.args.s.now c.u16_at-n.ensures.0) c.requires.0 in
+    omega (arith, c.requires.1.offsets, w.0, w.1)
 
 pub expand_statement-expand_part-requires-in-35 : goal.expand_statement-expand_part-requires-in-35
 expand_statement-expand_part-requires-in-35 t c =
-    let x = (while-tree (size_is c.args.s.now c.u16_at-n.ensures.0) c.requires.0 (kind-of c.args.s.now c.u16_at.ensures.0 c.in-35.is) c.u16_at-b-in-35.result c.u16_at-b-in-35.ensures.0) in (
-      omega (arith, part_length (4 + c.u16_at-b-in-35.result) c.u16_at-n.result c.args.s.now (sized (size_is c.args.s.now c.u16_at-n.ensures.0) c.requires.0).1, (sized (size_is c.args.s.now c.u16_at-n.ensures.0) c.requires.0).1, x.fits, x.eight, c.decreases),
-      (omega arith, (x.body, while-fit (sized (size_is c.args.s.now c.u16_at-n.ensures.0) c.requires.0).1 c.requires.1 x)),
+    let w = sized (size_is c.args.s.now c.u16_at-n.ensures.0) c.requires.0 in
+    let x = while-tree (size_is c.args.s.now c.u16_at-n.ensures.0) c.requires.0 (kind-of c.args.s.now c.u16_at.ensures.0 c.in-35.is) c.u16_at-b-in-35.result c.u16_at-b-in-35.ensures.0 in (
+      omega (arith, part_length (4 + c.u16_at-b-in-35.result) c.u16_at-n.result c.args.s.now w.1, w.1, x.fits, x.eight, c.decreases),
+      (omega arith, (x.body, while-fit w.1 c.requires.1 x)),
     )
 
 pub expand_statement-shape_of-words-in-35 : goal.expand_statement-shape_of-words-in-35
@@ -483,12 +491,12 @@ expand_statement-shape_of-words-in-35 t c = c.expand_part-in-35.auto.words
 pub expand_statement-returns-in-35 : goal.expand_statement-returns-in-35
 expand_statement-returns-in-35 t c =
     λ a f.
-    let x = (while-tree (size_is c.args.s.now c.u16_at-n.ensures.0) a (kind-of c.args.s.now c.u16_at.ensures.0 c.in-35.is) c.u16_at-b-in-35.result c.u16_at-b-in-35.ensures.0) in
+    let x = while-tree (size_is c.args.s.now c.u16_at-n.ensures.0) a (kind-of c.args.s.now c.u16_at.ensures.0 c.in-35.is) c.u16_at-b-in-35.result c.u16_at-b-in-35.ensures.0 in
     while-expanded f.here x (c.expand_part-in-35.ensures x.body (while-fit (sized (size_is c.args.s.now c.u16_at-n.ensures.0) c.requires.0).1 f x))
 
 pub expand_statement-expand_else-requires : goal.expand_statement-expand_else-requires
 expand_statement-expand_else-requires t c =
-    (omega arith, ((size_is c.args.s.now c.u16_at-n.ensures.0), (kind-of c.args.s.now c.u16_at.ensures.0 c.in-34.is), c.requires))
+    (omega arith, (size_is c.args.s.now c.u16_at-n.ensures.0, kind-of c.args.s.now c.u16_at.ensures.0 c.in-34.is, c.requires))
 
 pub expand_statement-shape_of-words-in-34 : goal.expand_statement-shape_of-words-in-34
 expand_statement-shape_of-words-in-34 t c = c.expand_else.auto.words
@@ -498,7 +506,7 @@ expand_statement-returns-in-34 t c = c.expand_else.ensures
 
 pub expand_statement-expand_for-requires : goal.expand_statement-expand_for-requires
 expand_statement-expand_for-requires t c =
-    (omega arith, ((size_is c.args.s.now c.u16_at-n.ensures.0), (kind-of c.args.s.now c.u16_at.ensures.0 c.in-36.is), c.requires))
+    (omega arith, (size_is c.args.s.now c.u16_at-n.ensures.0, kind-of c.args.s.now c.u16_at.ensures.0 c.in-36.is, c.requires))
 
 pub expand_statement-shape_of-words-in-36 : goal.expand_statement-shape_of-words-in-36
 expand_statement-shape_of-words-in-36 t c = c.expand_for.auto.words

@@ -1,12 +1,6 @@
 -- `count_joints` meets its contract.
-use Prim.Native.Nat.{◌+◌, ◌-◌, ◌*◌, ◌≤◌}
-use mathlib.Core.Path.{◌≡◌, refl, sym}
-use borrow.Author.Rules.{rules}
+use mathlib.Core.Path.{refl, sym}
 use native.Mathlib.Omega.{arith}
-use lib.ListN.{length}
-use Rattle.rules.specs.Expanding.{joints}
-use Rattle.records.specs.Acceptance.{GoodAll}
-use Rattle.records.specs.Checking.{from}
 use Rattle.records.proofs.Parts.{from-drop, from-length}
 use Rattle.records.proofs.GoodBlocks.{moved, turn}
 use Rattle.expander.proofs.Counts.{joints-last, joints-more}

@@ -1,14 +1,9 @@
 use Prim.Native.Nat.{◌+◌, ◌-◌, ◌*◌, ◌≤◌}
-use mathlib.Core.Path.{◌≡◌, refl, sym}
-use borrow.Author.Rules.{rules}
-use native.Mathlib.Omega.{arith}
+use mathlib.Core.Path.{◌≡◌}
 use lib.ListN.{length}
 use Rattle.rules.specs.Expanding.{joints}
 use Rattle.records.specs.Acceptance.{GoodAll}
 use Rattle.records.specs.Checking.{from}
-use Rattle.records.proofs.Parts.{from-drop, from-length}
-use Rattle.records.proofs.GoodBlocks.{moved, Turn, turn}
-use Rattle.expander.proofs.Counts.{size_is, joints-last, joints-more}
 use Rattle.expander.proofs.statements.count_joints.Given as goal
 
 abbrev pub invariant-loop-k : goal.invariant-loop-k

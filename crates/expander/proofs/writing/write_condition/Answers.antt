@@ -1,5 +1,4 @@
 -- `write_condition` meets its contract.
-use borrow.Author.Rules.{rules}
 use Rattle.expander.proofs.Words.{wrote-two}
 use Rattle.expander.proofs.writing.write_condition.Goals as goal
 

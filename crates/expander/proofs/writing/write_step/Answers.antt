@@ -1,5 +1,4 @@
 -- `write_step` meets its contract.
-use borrow.Author.Rules.{rules}
 use native.Mathlib.Omega.{arith}
 use lib.ListN.{length-set}
 use Rattle.expander.proofs.Words.{one-over}
