@@ -5,7 +5,8 @@ use mathlib.Core.Path.{◌≡◌, refl, sym, ap, ap₂, ◌∙◌}
 use mathlib.Core.List.{List}
 use native.Mathlib.Omega.{arith}
 use native.Mathlib.Decide.{dec_le}
-use lib.ListN.{length, length-append}
+use lib.ListN.{length, length-append, take, drop}
+use Rattle.rules.specs.Basics.{number}
 use Rattle.rules.specs.Syntax.{Stmt, block, Stmts, last, ◌then◌}
 use Rattle.rules.specs.Expanding.{joints, made, made_all, expand, expand_all, table}
 use Rattle.records.specs.Checking.{from}
@@ -13,10 +14,11 @@ use Rattle.records.specs.Counting.{step_count}
 use Rattle.records.specs.Acceptance.{GoodAll}
 use Rattle.records.proofs.Parts.{from-drop, from-length}
 use Rattle.records.proofs.StepCounts.{expand-length, count-last, count-more}
-use Rattle.records.proofs.GoodBlocks.{moved, Turn}
+use Rattle.records.proofs.GoodBlocks.{moved, Turn, turn}
 use Rattle.expander.specs.declared.Ends.{Ends}
 use Rattle.expander.specs.declared.Next.{Next}
 use Rattle.expander.specs.Writing.{over, Expanded, Fit}
+use Rattle.expander.proofs.Counts.{size_is}
 use Rattle.expander.proofs.Words.{steps-over}
 
 -- ---- a block's nodes and steps
@@ -73,6 +75,10 @@ starts {s} a {e = e} {n = n} {i = i} {ws = ws} h g =
       steps = refl;
       same = rw g;
     }
+
+-- a turn, where the statement's length was read
+pub next-turn : (k : ℕ) (s : List ℕ) {q : ℕ} → q ≡ number (take 2 (drop 0 (from k s))) → (b : GoodAll (from k s)) → Turn k q s b.at b.tree
+next-turn k s e b = turn k _ s (size_is (from k s) e) b
 
 -- the next statement, q bytes long
 module _

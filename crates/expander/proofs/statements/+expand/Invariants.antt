@@ -1,0 +1,34 @@
+use Prim.Native.Nat.{◌-◌, ◌≤◌}
+use mathlib.Core.Path.{◌≡◌}
+use lib.ListN.{length}
+use Rattle.rules.specs.Syntax.{block}
+use Rattle.records.specs.Acceptance.{GoodAll}
+use Rattle.expander.specs.Writing.{Fit}
+use Rattle.expander.proofs.Blocks.{Left}
+use Prim.Native.Nat.{◌+◌, ◌≤◌}
+use mathlib.Core.Path.{◌≡◌}
+use Prim.Native.Nat.{◌+◌, ◌*◌}
+use Rattle.expander.proofs.statements.+expand.Given as goal
+
+abbrev pub invariant-expand_block-loop-last : goal.invariant-expand_block-loop-last
+invariant-expand_block-loop-last l =
+    (l.k ≤ length l.s) × (length l.words ≡ length l.initial.words)
+    × ((a : GoodAll l.s) → Fit (block a.tree) a.at l.at l.node l.i l.s l.initial.words → Left a.tree l.at l.ends l.node l.i l.s l.initial.words l.k l.o l.j l.next l.words)
+
+abbrev pub decreases-expand_block-loop-last : goal.decreases-expand_block-loop-last
+decreases-expand_block-loop-last l = length l.s - l.k
+
+abbrev pub decreases-expand_block : goal.decreases-expand_block
+decreases-expand_block l = 2 * length l.s.now + 2
+
+abbrev pub decreases-expand_else : goal.decreases-expand_else
+decreases-expand_else l = 2 * length l.s.now
+
+abbrev pub decreases-expand_for : goal.decreases-expand_for
+decreases-expand_for l = 2 * length l.s.now
+
+abbrev pub decreases-expand_part : goal.decreases-expand_part
+decreases-expand_part l = 2 * length l.s.now + 2
+
+abbrev pub decreases-expand_statement : goal.decreases-expand_statement
+decreases-expand_statement l = 2 * length l.s.now + 1
