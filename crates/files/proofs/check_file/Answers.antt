@@ -20,17 +20,12 @@ returns-then-u16_at-n c =
     let a = c.args in
     file-length a.file.now (omega arith) (omega arith) (λ e. omega (arith, c.u16_at.ensures.0))
 
--- the first length is the file's
-entire : (c : goal.Else-u16_at-n) → let a = c.args in size_of a.file.now ≡ length a.file.now
-unfolding size_of
-entire c = omega (arith, c.u16_at.ensures.0)
-
 pub returns-then-u16_at-ne1 : goal.returns-then-u16_at-ne1
-unfolding kind_of
+unfolding kind_of size_of
 returns-then-u16_at-ne1 c =
-    let b = c.before.before in
-    let a = b.args in
-    file-kind a.file.now (omega arith) (omega arith) (entire b) (λ e. omega (arith, c.u16_at-2.ensures.0))
+    let a = c.args in
+    let entire : size_of a.file.now ≡ length a.file.now = omega (arith, c.u16_at.ensures.0) in
+    file-kind a.file.now (omega arith) (omega arith) entire (λ e. omega (arith, c.u16_at-2.ensures.0))
 
 pub check_agreement-requires : goal.check_agreement-requires
 check_agreement-requires c =
@@ -38,10 +33,9 @@ check_agreement-requires c =
     omega (arith, from-length 4 a.file.now)
 
 pub returns : goal.returns
-unfolding kind_of
+unfolding kind_of size_of
 returns c =
-    let k = c in
-    let b = k.before.before in
-    let a = b.args in
+    let a = c.args in
+    let entire : size_of a.file.now ≡ length a.file.now = omega (arith, c.u16_at.ensures.0) in
     rw (c.close.ensures, c.check_agreement.ensures)
-    (file-ended a.file.now (omega arith) (omega arith) (entire b) (omega (arith, k.u16_at-2.ensures.0)))
+    (file-ended a.file.now (omega arith) (omega arith) entire (omega (arith, c.u16_at-2.ensures.0)))

@@ -14,13 +14,10 @@ then_statement-fallback-requires c =
 
 pub then_groups-requires : goal.then_groups-requires
 then_groups-requires c =
-    let f = c in
-    let b = f.args.b.now in
-    (omega arith, rw (c.then_statement-fallback.ensures 0, c.then_statement-initial.ensures 0, f.check_fields.ensures, f.byte-vars.ensures.0) (fallback-within b))
+    let b = c.args.b.now in
+    (omega arith, rw (c.then_statement-fallback.ensures 0, c.then_statement-initial.ensures 0, c.check_fields.ensures, c.byte-vars.ensures.0) (fallback-within b))
 
 pub returns : goal.returns
 returns c =
-    let a = c in
-    let f = a in
-    rw (c.then_groups.ensures, c.then_statement-fallback.ensures 0, a.then_statement-initial.ensures 0, f.check_fields.ensures, f.byte-vars.ensures.0)
-    (tree-onward f.args.b.now)
+    rw (c.then_groups.ensures, c.then_statement-fallback.ensures 0, c.then_statement-initial.ensures 0, c.check_fields.ensures, c.byte-vars.ensures.0)
+    (tree-onward c.args.b.now)

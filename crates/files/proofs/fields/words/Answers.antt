@@ -16,23 +16,21 @@ loop-init c =
 pub returns-then-b-j : goal.returns-then-b-j
 unfolding following
 returns-then-b-j c =
-    let l = c in
-    let a = l.args in
-    let n = l.loop.counter in
-    rw l.in-Ok.is
-    (sym (l.loop.invariant.2 ∙ words-short a.at a.b.now (a.k - n) (a.k - suc n) l.loop.j (omega arith) c.if-b-j.true))
+    let a = c.args in
+    let n = c.loop.counter in
+    rw c.in-Ok.is
+    (sym (c.loop.invariant.2 ∙ words-short a.at a.b.now (a.k - n) (a.k - suc n) c.loop.j (omega arith) c.if-b-j.true))
 
 pub loop-preserved : goal.loop-preserved
 loop-preserved c =
-    let l = c in
-    let a = l.args in
-    let n = l.loop.counter in
+    let a = c.args in
+    let n = c.loop.counter in
     let z : a.k - suc n ≡ a.k - (n + 1) = omega arith in (
       omega arith,
       omega arith,
-      l.loop.invariant.2
-          ∙ words-next a.at a.b.now (a.k - n) (a.k - suc n) l.loop.j (omega arith) c.if-b-j.false
-          ∙ ap (λ (k : ℕ). words_answer a.at a.b.now k (l.loop.j + 4)) z,
+      c.loop.invariant.2
+          ∙ words-next a.at a.b.now (a.k - n) (a.k - suc n) c.loop.j (omega arith) c.if-b-j.false
+          ∙ ap (λ (k : ℕ). words_answer a.at a.b.now k (c.loop.j + 4)) z,
     )
 
 pub returns-in-Refused : goal.returns-in-Refused
@@ -42,8 +40,7 @@ returns-in-Refused c = rw c.in-Refused.is
 pub returns-after-loop : goal.returns-after-loop
 unfolding following
 returns-after-loop c =
-    let l = c in
-    let a = l.args in
-    let z : a.k - l.loop.counter ≡ 0 = omega arith in
-    rw l.in-Ok.is
-    (sym (l.loop.invariant.2 ∙ ap (λ (k : ℕ). words_answer a.at a.b.now k l.loop.j) z ∙ words-none a.at a.b.now l.loop.j))
+    let a = c.args in
+    let z : a.k - c.loop.counter ≡ 0 = omega arith in
+    rw c.in-Ok.is
+    (sym (c.loop.invariant.2 ∙ ap (λ (k : ℕ). words_answer a.at a.b.now k c.loop.j) z ∙ words-none a.at a.b.now c.loop.j))

@@ -10,9 +10,6 @@ use Rattle.records.proofs.Parts.{from-length}
 use Rattle.files.specs.Members.{names_in, member, is_next}
 use Rattle.files.proofs.Steadies.{steady-member}
 use Rattle.files.proofs.GroupLaws.{Next, next-read, Rest, rest_all, rest-ends, rest-refuses, rest_goes}
-use Rattle.files.proofs.groups.check_group.Lts as lts
-use Rattle.files.proofs.groups.check_group.Tie as tie
-use Rattle.files.proofs.groups.check_group.Reads as own
 use Rattle.files.proofs.groups.check_group.Given as goal
 
 abbrev pub invariant-loop-k : goal.invariant-loop-k

@@ -16,9 +16,8 @@ then_group-rules-requires c =
 
 pub no_more-requires : goal.no_more-requires
 no_more-requires c =
-    let g = c in
-    let a = g.args in
-    (omega arith, rw (c.then_group-rules.ensures 0, c.then_group-rows.ensures 0, g.check_group-transitions.ensures 0) (rules-within a.states a.vars a.accounts 0 a.at a.s.now))
+    let a = c.args in
+    (omega arith, rw (c.then_group-rules.ensures 0, c.then_group-rows.ensures 0, c.check_group-transitions.ensures 0) (rules-within a.states a.vars a.accounts 0 a.at a.s.now))
 
 pub returns : goal.returns
 returns c = λ start.

@@ -24,16 +24,14 @@ returns-then-left-eq0 c = λ start.
 
 pub check_member-requires : goal.check_member-requires
 check_member-requires c =
-    let r = c in
-    omega (arith, part_length 4 r.record_len-n.result r.args.s.now r.record_len-n.ensures.1)
+    omega (arith, part_length 4 c.record_len-n.result c.args.s.now c.record_len-n.ensures.1)
 
 pub returns : goal.returns
 returns c = λ start.
-    let r = c in
-    let a = r.args in
+    let a = c.args in
     let names = names_in 64 a.ts.now in
-    let w = long a.s.now r.record_len-n.result r.record_len-n.ensures.0 (omega arith) in
+    let w = long a.s.now c.record_len-n.result c.record_len-n.ensures.0 (omega arith) in
     rw (c.close.ensures, c.check_member.ensures)
     (sym
     (another-ended (member a.states a.vars a.accounts names a.kind) start a.at a.s.now (steady-member a.states a.vars a.accounts names a.kind)
-    a.left r.record_len-n.result c.if-left-eq0.false w))
+    a.left c.record_len-n.result c.if-left-eq0.false w))

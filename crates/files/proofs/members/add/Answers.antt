@@ -9,8 +9,7 @@ use Rattle.files.proofs.members.add.Goals as goal
 
 pub overflow_add-result : goal.overflow_add-result
 overflow_add-result c =
-    let b = c in
-    let h = subst (λ (d : Checked). b.args.steps + steps_of d < 2 ^ 64) c.in-Ok.is b.requires in
+    let h = subst (λ (d : Checked). c.args.steps + steps_of d < 2 ^ 64) c.in-Ok.is c.requires in
     omega arith
 
 pub returns-in-Refused : goal.returns-in-Refused

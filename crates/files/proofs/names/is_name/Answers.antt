@@ -1,5 +1,5 @@
 -- `is_name` meets its contract. The loop's invariant: the name is one of all exactly if it is one of those that are left.
-use Prim.Native.Nat.{ℕ, ◌+◌, ◌-◌, ◌≤◌}
+use Prim.Native.Nat.{ℕ, ◌+◌, ◌-◌, ◌<◌}
 use mathlib.Core.Path.{◌≡◌, sym, ap, ◌∙◌}
 use mathlib.Core.List.{List, ◌∷◌}
 use native.Mathlib.Omega.{arith}
@@ -10,12 +10,10 @@ use borrow.Author.Rules.{rules}
 use Rattle.rules.specs.Basics.{any}
 use Rattle.rules.specs.Reading.{kind_of, size_of}
 use Rattle.records.specs.Checking.{from}
-use Rattle.records.proofs.Parts.{from-drop, from-from, from-length, long, short}
+use Rattle.records.proofs.Parts.{from-drop, from-from, from-length, long, short, Whole}
+use Rattle.files.specs.Answers.{value_at}
 use Rattle.files.specs.Members.{names_in}
 use Rattle.files.proofs.NameLaws.{names-none, names-short, names-other, names-next}
-use Rattle.files.proofs.names.is_name.Lts as lts
-use Rattle.files.proofs.names.is_name.Tie as tie
-use Rattle.files.proofs.names.is_name.Reads as own
 use Rattle.files.proofs.names.is_name.Goals as goal
 
 pub loop-left-init : goal.loop-left-init
@@ -26,10 +24,9 @@ loop-left-init c =
 pub returns-then-n-lt4 : goal.returns-then-n-lt4
 unfolding any
 returns-then-n-lt4 c =
-    let l = c in
-    let a = l.args in
-    let s = from l.loop-left.i a.s.now in
-    sym (l.loop-left.invariant.1 ∙ ap (any (eqb a.name)) (names-short s l.loop-left.left (short s (omega arith))))
+    let a = c.args in
+    let s = from c.loop-left.i a.s.now in
+    sym (c.loop-left.invariant.1 ∙ ap (any (eqb a.name)) (names-short s c.loop-left.left (short s (omega arith))))
 
 pub u16_at-requires : goal.u16_at-requires
 u16_at-requires c = omega (arith, c.record_len-n.ensures.1)
@@ -37,60 +34,47 @@ u16_at-requires c = omega (arith, c.record_len-n.ensures.1)
 pub returns-then-u16_at-ne2 : goal.returns-then-u16_at-ne2
 unfolding any kind_of
 returns-then-u16_at-ne2 c =
-    let r = c in
-    let l = r in
-    let a = l.args in
-    let s = from l.loop-left.i a.s.now in
-    let w = long s r.record_len-n.result r.record_len-n.ensures.0 (omega arith) in
-    sym (l.loop-left.invariant.1 ∙ ap (any (eqb a.name)) (names-other s l.loop-left.left w.is λ e. c.if-u16_at-ne2.true (c.u16_at.ensures.0 ∙ e)))
+    let a = c.args in
+    let s = from c.loop-left.i a.s.now in
+    let w = long s c.record_len-n.result c.record_len-n.ensures.0 (omega arith) in
+    sym (c.loop-left.invariant.1 ∙ ap (any (eqb a.name)) (names-other s c.loop-left.left w.is λ e. c.if-u16_at-ne2.true (c.u16_at.ensures.0 ∙ e)))
 
 -- the transition that stands here
 here :
-    (c : lts.After-byte tie.the-claims own.Pre own.Post) →
-    let l = c.before.before.before.before.before.before.before.before.before in
-    let a = l.args in
-    let n = c.record_len-n.result in
-    (n ≤ length (from l.loop-left.i a.s.now))
-    × (names_in l.loop-left.left (from l.loop-left.i a.s.now) ≡ c.byte.result ∷ names_in (l.loop-left.left - 1) (from (l.loop-left.i + n) a.s.now))
-unfolding kind_of
-here c =
-    let r = c in
-    let l = r in
-    let a = l.args in
-    let i = l.loop-left.i in
-    let n = r.record_len-n.result in
-    let s = from i a.s.now in
-    let w = long s n r.record_len-n.ensures.0 (omega arith) in
-    let k : kind_of s ≡ 2 = sym c.u16_at.ensures.0 ∙ c.if-u16_at-ne2.false in
-    let z : drop (size_of s) s ≡ from (i + n) a.s.now = ap (λ (k : ℕ). drop k s) w.size ∙ from-from i n a.s.now in
-    (w.high, names-next s l.loop-left.left (l.loop-left.left - 1) (omega arith) w.is k ∙ rw (z, c.byte.ensures.0))
+    (s : List ℕ) (i left n name : ℕ) → 0 < left → Whole (from i s) n → kind_of (from i s) ≡ 2 → name ≡ value_at 1 4 (from i s) →
+    names_in left (from i s) ≡ name ∷ names_in (left - 1) (from (i + n) s)
+here s i left n name p w k e =
+    let t = from i s in
+    let z : drop (size_of t) t ≡ from (i + n) s = ap (λ (k : ℕ). drop k t) w.size ∙ from-from i n s in
+    names-next t left (left - 1) (omega arith) w.is k ∙ rw (z, e)
 
 pub returns-then-name-byte : goal.returns-then-name-byte
-unfolding any
+unfolding any kind_of
 returns-then-name-byte c =
-    let h = here c.before in
-    let l = c in
-    let a = l.args in
-    sym (l.loop-left.invariant.1 ∙ ap (any (eqb a.name)) h.1 ∙ rw (eq-eqb _ _ c.if-name-byte.true))
+    let a = c.args in
+    let l = c.loop-left in
+    let r = c.record_len-n in
+    let w = long (from l.i a.s.now) r.result r.ensures.0 (omega arith) in
+    let h = here a.s.now l.i l.left r.result c.byte.result (omega arith) w (sym c.u16_at.ensures.0 ∙ c.if-u16_at-ne2.false) c.byte.ensures.0 in
+    sym (l.invariant.1 ∙ ap (any (eqb a.name)) h ∙ rw (eq-eqb _ _ c.if-name-byte.true))
 
 pub overflow_add-i : goal.overflow_add-i
-overflow_add-i c =
-    let l = c in
-    omega (arith, (here c.before).0, l.loop-left.invariant.0, from-length l.loop-left.i l.args.s.now)
+overflow_add-i c = omega (arith, c.record_len-n.ensures.1, c.loop-left.invariant.0, from-length c.loop-left.i c.args.s.now)
 
 pub loop-left-preserved : goal.loop-left-preserved
-unfolding any
+unfolding any kind_of
 loop-left-preserved c =
-    let h = here c.before in
-    let l = c in
-    let a = l.args in (
-      omega (arith, h.0, l.loop-left.invariant.0, from-length l.loop-left.i a.s.now),
-      l.loop-left.invariant.1 ∙ ap (any (eqb a.name)) h.1 ∙ rw (ne_eqb _ _ c.if-name-byte.false),
+    let a = c.args in
+    let l = c.loop-left in
+    let r = c.record_len-n in
+    let w = long (from l.i a.s.now) r.result r.ensures.0 (omega arith) in
+    let h = here a.s.now l.i l.left r.result c.byte.result (omega arith) w (sym c.u16_at.ensures.0 ∙ c.if-u16_at-ne2.false) c.byte.ensures.0 in (
+      omega (arith, r.ensures.1, l.invariant.0, from-length l.i a.s.now),
+      l.invariant.1 ∙ ap (any (eqb a.name)) h ∙ rw (ne_eqb _ _ c.if-name-byte.false),
     )
 
 pub returns : goal.returns
 unfolding any
 returns c =
-    let l = c in
-    let a = l.args in
-    sym (l.loop-left.invariant.1 ∙ ap (any (eqb a.name)) (names-none l.loop-left.left (from l.loop-left.i a.s.now) (omega arith)))
+    let a = c.args in
+    sym (c.loop-left.invariant.1 ∙ ap (any (eqb a.name)) (names-none c.loop-left.left (from c.loop-left.i a.s.now) (omega arith)))

@@ -12,9 +12,6 @@ use Rattle.records.specs.Checking.{from}
 use Rattle.records.proofs.Parts.{from-drop, from-from, from-length, long, short}
 use Rattle.files.specs.Members.{names_in}
 use Rattle.files.proofs.NameLaws.{names-none, names-short, names-other, names-next}
-use Rattle.files.proofs.names.is_name.Lts as lts
-use Rattle.files.proofs.names.is_name.Tie as tie
-use Rattle.files.proofs.names.is_name.Reads as own
 use Rattle.files.proofs.names.is_name.Given as goal
 
 abbrev pub invariant-loop-left : goal.invariant-loop-left
