@@ -2,7 +2,6 @@
 use mathlib.Core.Path.{◌≡◌}
 use native.Mathlib.Omega.{arith}
 use lib.ListN.{length}
-use borrow.Author.Rules.{rules}
 use Rattle.rules.specs.Reading.{size_of, kind_of}
 use Rattle.records.proofs.Parts.{from-length}
 use Rattle.files.proofs.TreeLaws.{file-small, file-large, file-length, file-kind, file-ended}

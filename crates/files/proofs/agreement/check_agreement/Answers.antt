@@ -1,6 +1,5 @@
 -- `check_agreement` meets its contract.
 use native.Mathlib.Omega.{arith}
-use borrow.Author.Rules.{rules}
 use Rattle.files.proofs.TreeLaws.{fields_within, initial-within, fallback-within, tree-onward}
 use Rattle.files.proofs.agreement.check_agreement.Goals as goal
 

@@ -1,9 +1,8 @@
 -- `then_groups` meets its contract.
-use Prim.Native.Nat.{◌+◌, ◌-◌, ◌≤◌}
+use Prim.Native.Nat.{◌-◌}
 use native.Mathlib.Omega.{arith}
 use lib.ListN.{length}
-use borrow.Author.Rules.{rules}
-use Rattle.records.specs.Checking.{from, Within}
+use Rattle.records.specs.Checking.{from}
 use Rattle.records.proofs.Parts.{from-length}
 use Rattle.records.proofs.Readers.{steady-within}
 use Rattle.files.proofs.FieldLaws.{within-few, within-ok}

@@ -1,6 +1,5 @@
 -- `check_fields` meets its contract.
 use native.Mathlib.Omega.{arith}
-use borrow.Author.Rules.{rules}
 use Rattle.files.proofs.FieldLaws.{fields-answer}
 use Rattle.files.proofs.fields.check_fields.Goals as goal
 

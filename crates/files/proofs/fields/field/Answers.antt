@@ -1,5 +1,4 @@
 -- `field` meets its contract.
-use borrow.Author.Rules.{rules}
 use Rattle.files.specs.Answers.{following, field_answer}
 use Rattle.files.proofs.FieldLaws.{is-there, is-short}
 use Rattle.files.proofs.fields.field.Goals as goal

@@ -1,8 +1,7 @@
 -- `words` meets its contract. The loop's invariant: what is left of the fields gives the answer.
-use Prim.Native.Nat.{ℕ, suc, ◌+◌, ◌-◌, ◌*◌, ◌≤◌}
+use Prim.Native.Nat.{ℕ, suc, ◌+◌, ◌-◌}
 use mathlib.Core.Path.{◌≡◌, sym, ap, ◌∙◌}
 use native.Mathlib.Omega.{arith}
-use borrow.Author.Rules.{rules}
 use Rattle.files.specs.Answers.{following}
 use Rattle.files.proofs.FieldLaws.{words_answer, words-none, words-next, words-short}
 use Rattle.files.proofs.fields.words.Goals as goal

@@ -1,9 +1,6 @@
-use Prim.Native.Nat.{ℕ, suc, ◌+◌, ◌-◌, ◌*◌, ◌≤◌}
-use mathlib.Core.Path.{◌≡◌, sym, ap, ◌∙◌}
-use native.Mathlib.Omega.{arith}
-use borrow.Author.Rules.{rules}
-use Rattle.files.specs.Answers.{following}
-use Rattle.files.proofs.FieldLaws.{words_answer, words-none, words-next, words-short}
+use Prim.Native.Nat.{◌+◌, ◌-◌, ◌*◌, ◌≤◌}
+use mathlib.Core.Path.{◌≡◌}
+use Rattle.files.proofs.FieldLaws.{words_answer}
 use Rattle.files.proofs.fields.words.Given as goal
 
 abbrev pub invariant-loop : goal.invariant-loop

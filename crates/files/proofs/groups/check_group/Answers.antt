@@ -1,16 +1,12 @@
 -- `check_group` meets its contract. The loop's invariant: what is left of the group, with the steps so far, gives the answer.
-use Prim.Native.Nat.{ℕ, ◌+◌, ◌≤◌}
-use mathlib.Core.Path.{◌≡◌, sym, ◌∙◌}
-use mathlib.Core.Bool.{true}
+use Prim.Native.Nat.{ℕ, ◌+◌}
+use mathlib.Core.Path.{sym, ◌∙◌}
 use native.Mathlib.Omega.{arith}
-use lib.ListN.{length}
-use borrow.Author.Rules.{rules}
-use Rattle.rules.specs.Reading.{Reader}
 use Rattle.records.specs.Checking.{from}
 use Rattle.records.proofs.Parts.{from-length}
-use Rattle.files.specs.Members.{names_in, member, is_next}
+use Rattle.files.specs.Members.{names_in, member}
 use Rattle.files.proofs.Steadies.{steady-member}
-use Rattle.files.proofs.GroupLaws.{Next, next-read, Rest, rest_all, rest-ends, rest-refuses, rest_goes}
+use Rattle.files.proofs.GroupLaws.{Next, next-read, rest_all, rest-ends, rest-refuses, rest_goes}
 use Rattle.files.proofs.groups.check_group.Goals as goal
 
 -- the member that was read

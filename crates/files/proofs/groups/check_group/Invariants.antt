@@ -1,15 +1,7 @@
-use Prim.Native.Nat.{ℕ, ◌+◌, ◌≤◌}
-use mathlib.Core.Path.{◌≡◌, sym, ◌∙◌}
-use mathlib.Core.Bool.{true}
-use native.Mathlib.Omega.{arith}
+use Prim.Native.Nat.{◌≤◌}
 use lib.ListN.{length}
-use borrow.Author.Rules.{rules}
-use Rattle.rules.specs.Reading.{Reader}
-use Rattle.records.specs.Checking.{from}
-use Rattle.records.proofs.Parts.{from-length}
-use Rattle.files.specs.Members.{names_in, member, is_next}
-use Rattle.files.proofs.Steadies.{steady-member}
-use Rattle.files.proofs.GroupLaws.{Next, next-read, Rest, rest_all, rest-ends, rest-refuses, rest_goes}
+use Rattle.files.specs.Members.{names_in, member}
+use Rattle.files.proofs.GroupLaws.{Rest}
 use Rattle.files.proofs.groups.check_group.Given as goal
 
 abbrev pub invariant-loop-k : goal.invariant-loop-k

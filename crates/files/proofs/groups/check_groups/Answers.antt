@@ -1,6 +1,5 @@
 -- `check_groups` meets its contract.
 use native.Mathlib.Omega.{arith}
-use borrow.Author.Rules.{rules}
 use Rattle.files.proofs.TreeLaws.{transitions-within, rows-within, rules-within, groups-onward}
 use Rattle.files.proofs.groups.check_groups.Goals as goal
 

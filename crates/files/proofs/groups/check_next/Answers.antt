@@ -1,7 +1,6 @@
 -- `check_next` meets its contract.
 use mathlib.Core.Path.{sym, ap}
 use native.Mathlib.Omega.{arith}
-use borrow.Author.Rules.{rules}
 use Rattle.records.specs.Checking.{outcome}
 use Rattle.records.proofs.Parts.{part_length, long, short}
 use Rattle.files.specs.Members.{names_in, member, itself}

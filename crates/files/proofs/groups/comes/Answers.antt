@@ -1,5 +1,4 @@
 -- `comes` meets its contract.
-use borrow.Author.Rules.{rules}
 use Rattle.rules.specs.Reading.{kind_of}
 use Rattle.records.proofs.Parts.{has_all, has-few}
 use Rattle.files.specs.Members.{is_next}

@@ -1,9 +1,8 @@
 -- `no_more` meets its contract.
-use Prim.Native.Nat.{◌+◌, ◌-◌, ◌≤◌, ◌<◌}
+use Prim.Native.Nat.{◌-◌, ◌<◌}
 use native.Mathlib.Omega.{arith}
 use lib.ListN.{length}
-use borrow.Author.Rules.{rules}
-use Rattle.records.specs.Checking.{from, Within}
+use Rattle.records.specs.Checking.{from}
 use Rattle.records.proofs.Parts.{from-length, long, short}
 use Rattle.files.proofs.FieldLaws.{within-ok}
 use Rattle.files.proofs.GroupLaws.{no-more-end, no-more-short, no-more-other}

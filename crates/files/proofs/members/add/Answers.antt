@@ -2,7 +2,6 @@
 use Prim.Native.Nat.{◌+◌, ◌^◌, ◌<◌}
 use mathlib.Core.Path.{subst}
 use native.Mathlib.Omega.{arith}
-use borrow.Author.Rules.{rules}
 use Rattle.records.specs.declared.Checked.{Checked}
 use Rattle.files.specs.Answers.{steps_of}
 use Rattle.files.proofs.members.add.Goals as goal

@@ -1,6 +1,5 @@
 -- `check_member` meets its contract.
 use mathlib.Core.Path.{◌∙◌}
-use borrow.Author.Rules.{rules}
 use Rattle.files.specs.Members.{names_in}
 use Rattle.files.proofs.MemberLaws.{is-transition, is_row, is-rule}
 use Rattle.files.proofs.members.check_member.Goals as goal

@@ -1,5 +1,4 @@
 -- `check_row` meets its contract.
-use borrow.Author.Rules.{rules}
 use Rattle.files.proofs.MemberLaws.{row-answer}
 use Rattle.files.proofs.members.check_row.Goals as goal
 

@@ -2,7 +2,6 @@
 use Prim.Native.Nat.{◌+◌}
 use mathlib.Core.Path.{sym, ◌∙◌}
 use native.Mathlib.Omega.{arith}
-use borrow.Author.Rules.{rules}
 use Rattle.records.proofs.Readers.{steady-within}
 use Rattle.files.specs.Members.{names_in}
 use Rattle.files.proofs.Steadies.{steady-rule-head}

@@ -1,5 +1,4 @@
 -- `check_rule_head` meets its contract.
-use borrow.Author.Rules.{rules}
 use Rattle.files.specs.Members.{names_in}
 use Rattle.files.proofs.MemberLaws.{rule-head-answer}
 use Rattle.files.proofs.members.check_rule_head.Goals as goal

@@ -1,7 +1,6 @@
 -- `check_transition` meets its contract.
 use Prim.Native.Nat.{◌+◌}
 use native.Mathlib.Omega.{arith}
-use borrow.Author.Rules.{rules}
 use Rattle.records.proofs.Readers.{steady-within}
 use Rattle.files.proofs.Steadies.{steady-transition-head}
 use Rattle.files.proofs.MemberLaws.{guard-within, transition-onward}

@@ -1,5 +1,4 @@
 -- `check_transition_head` meets its contract.
-use borrow.Author.Rules.{rules}
 use Rattle.files.proofs.MemberLaws.{head-answer}
 use Rattle.files.proofs.members.check_transition_head.Goals as goal
 

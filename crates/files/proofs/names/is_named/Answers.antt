@@ -1,6 +1,5 @@
 -- `is_named` meets its contract.
 use borrow.Author.Tests.{eq-eqb, ne_eqb}
-use borrow.Author.Rules.{rules}
 use Rattle.rules.specs.Reading.{named}
 use Rattle.files.proofs.names.is_named.Goals as goal
 

@@ -1,6 +1,5 @@
 -- `byte` meets its contract.
 use native.Mathlib.Omega.{arith}
-use borrow.Author.Rules.{rules}
 use Rattle.files.proofs.FieldLaws.{byte-there, value-short}
 use Rattle.files.proofs.values.byte.Goals as goal
 

@@ -1,7 +1,6 @@
 -- `word` meets its contract.
 use mathlib.Core.Path.{◌∙◌}
 use native.Mathlib.Omega.{arith}
-use borrow.Author.Rules.{rules}
 use Rattle.files.proofs.FieldLaws.{value_there, value-short}
 use Rattle.files.proofs.values.word.Goals as goal
 
