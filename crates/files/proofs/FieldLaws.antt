@@ -1,7 +1,7 @@
 -- Laws of fields in a row: a reader of fields as a row of answers, then what was read.
 -- Assumes nothing.
 use Prim.Native.Nat.{ℕ, zero, suc, ◌+◌, ◌≤◌, ◌<◌}
-use mathlib.Core.Path.{◌≡◌, refl, sym, ap, ap₂, ◌∙◌}
+use mathlib.Core.Path.{◌≡◌, refl, sym, ap, ap₂, subst, ◌∙◌}
 use mathlib.Core.Bool.{Bool, true, false, ◌&&◌}
 use mathlib.Core.List.{List, [], ◌∷◌}
 use native.Mathlib.Omega.{arith}
@@ -54,6 +54,10 @@ following-twice (Refused n p) d e = refl
 pub within-few : (at n : ℕ) (c : Checked) → Within at n c → steps_of c ≤ n
 within-few at n (Ok m k) h = omega (arith, h.0, h.1)
 within-few at n (Refused k p) h = omega arith
+
+-- where an answer that isn't a refusal ended
+pub within-ok : (at n : ℕ) {c : Checked} {m k : ℕ} → c ≡ Ok m k → Within at n c → (at + k ≤ m) × (m ≤ at + n)
+within-ok at n e h = subst (Within at n) e h
 
 -- ---- what stands at a place
 

@@ -10,7 +10,7 @@ use lib.ListN.{length, drop}
 use borrow.Author.Tests.{eqb-true, eqb-false, eq-eqb, ne_eqb}
 use Rattle.rules.specs.Basics.{if◌then◌else◌, has, part}
 use Rattle.rules.specs.Syntax.{Transition}
-use Rattle.rules.specs.Reading.{read, Reader, after, ◌>>=◌, pure, refuse, size_of, kind_of, whole, child, comes, group, transition_body}
+use Rattle.rules.specs.Reading.{read, Reader, ◌>>=◌, pure, refuse, size_of, kind_of, whole, child, comes, group, transition_body}
 use Rattle.records.proofs.Parts.{both, has_all, part_length, part-number, Whole, whole-record}
 use Rattle.records.proofs.Readers.{child-read, refused-never}
 use Rattle.records.proofs.Inversion.{then-read}
