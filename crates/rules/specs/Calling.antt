@@ -16,7 +16,7 @@ use Rattle.rules.specs.Basics.{first_of, given, any, find, is_none, sum}
 use Rattle.rules.specs.Syntax.{Transition, Agreement}
 use Rattle.rules.specs.Accepting.{refusal, file_of, on_file}
 use Rattle.rules.specs.Values.{is_true}
-use Rattle.rules.specs.Running.{Setting, machine, Run, going, returned, stopped, ◌>>=◌, ◌>>◌, statement, guarded}
+use Rattle.rules.specs.Running.{Setting, machine, Run, going, returned, stopped, ◌>>◌, statement, guarded}
 
 abbrev pub outcome : Answer → State → Outcome
 outcome a s = record { answer = a; state = s }

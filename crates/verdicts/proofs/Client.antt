@@ -1,13 +1,8 @@
 -- The verdict that a client gets is the ruling (verdict-is-ruling), so what is shown of rulings is shown of verdicts.
-use mathlib.Core.Path.{◌≡◌, refl, sym, ap, ◌∙◌}
-use Prim.Native.Nat.{ℕ}
-use mathlib.Core.Bool.{Bool, true, false}
-use mathlib.Core.Option.{some}
-use lib.ListN.{get_elem?}
-use Rattle.rules.specs.declared.Outcome.{Outcome}
+use mathlib.Core.Path.{◌≡◌}
+use mathlib.Core.Bool.{true}
 use Rattle.rules.specs.Basics.{first_of, given}
-use Rattle.rules.specs.Syntax.{Agreement}
-use Rattle.rules.specs.Accepting.{good, file_of, on_file}
+use Rattle.rules.specs.Accepting.{on_file}
 use Rattle.rules.specs.Calling.{start_tree, start}
 use Rattle.rules.specs.Judging.{is_completed, verdict_tests, judge, verdict}
 use Rattle.rules.specs.Demands.{VerdictIsRuling}
