@@ -13,34 +13,16 @@ use Rattle.access.specs.Trees.{TreeRead}
 use Rattle.reader.proofs.Repeats.{repeat-small, repeat-some, repeat-none}
 use Rattle.reader.proofs.accepted.Goals as goal
 
-pub layout-requires : goal.layout-requires
-layout-requires c = search rules
-
 pub first_repeat-requires : goal.first_repeat-requires
 first_repeat-requires c =
     let t = c.requires in
     record { read = t; out = c.layout.ensures t }
-
-pub enum_known-p : goal.enum_known-p
-enum_known-p c = search rules
 
 pub refused-requires : goal.refused-requires
 refused-requires c =
     let t = c.requires in
     let e = repeat-some (first_repeat [] t.tree.transitions) (sym c.in-At.is ∙ c.first_repeat.ensures t) in
     omega (arith, repeat-small t _ e)
-
-pub enum_told-1 : goal.enum_told-1
-enum_told-1 c = search rules
-
-pub fields-requires : goal.fields-requires
-fields-requires c = search rules
-
-pub opening_sum-requires : goal.opening_sum-requires
-opening_sum-requires c = search rules
-
-pub sized-requires : goal.sized-requires
-sized-requires c = search rules
 
 pub returns-in-At : goal.returns-in-At
 unfolding accept on_file given

@@ -11,21 +11,12 @@ use Rattle.access.specs.Trees.{TreeRead}
 use Rattle.reader.proofs.Places.{place-small}
 use Rattle.reader.proofs.read.Goals as goal
 
-pub check_file-requires : goal.check_file-requires
-check_file-requires c = search rules
-
-pub enum_known-n : goal.enum_known-n
-enum_known-n c = search rules
-
 pub refused-requires : goal.refused-requires
 refused-requires c =
     let e =
     gone tree_steps (read_tree c.args.file.now)
     (sym c.in-Refused.is ∙ c.check_file.ensures) in
     omega (arith, place-small _ _ _ e)
-
-pub enum_known-steps : goal.enum_known-steps
-enum_known-steps c = search rules
 
 pub accepted-requires : goal.accepted-requires
 accepted-requires c =

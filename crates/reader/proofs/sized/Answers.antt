@@ -10,17 +10,11 @@ use Rattle.rules.specs.Expanding.{expansion}
 use Rattle.rules.specs.Accepting.{on_file, sized}
 use Rattle.reader.proofs.sized.Goals as goal
 
-pub refused-requires : goal.refused-requires
-refused-requires c = search rules
-
 pub returns-then-sum-gt4294967295 : goal.returns-then-sum-gt4294967295
 unfolding on_file sized most32
 returns-then-sum-gt4294967295 c = λ a s q.
     let h : 4294967295 < sum a.fields.opening = omega arith in
     rw (c.refused.ensures, lt-ltb 4294967295 (sum a.fields.opening) h)
-
-pub refused-requires-then-steps-gt1024 : goal.refused-requires-then-steps-gt1024
-refused-requires-then-steps-gt1024 c = search rules
 
 pub returns-then-steps-gt1024 : goal.returns-then-steps-gt1024
 unfolding on_file sized most32
@@ -28,9 +22,6 @@ returns-then-steps-gt1024 c = λ a s q.
     let h : sum a.fields.opening ≤ 4294967295 = omega arith in
     let g : 1024 < length (expansion a) = omega arith in
     rw (c.refused-then-steps-gt1024.ensures, le-ltb 4294967295 (sum a.fields.opening) h, lt-ltb 1024 (length (expansion a)) g)
-
-pub overflow_cast-result : goal.overflow_cast-result
-overflow_cast-result c = search rules
 
 pub returns : goal.returns
 unfolding on_file sized most32
