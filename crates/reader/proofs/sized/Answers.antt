@@ -8,38 +8,24 @@ use lib.ListN.{length}
 use Rattle.rules.specs.Basics.{sum, most32}
 use Rattle.rules.specs.Expanding.{expansion}
 use Rattle.rules.specs.Accepting.{on_file, sized}
-use Rattle.reader.proofs.sized.Statement.{statement}
-use Rattle.reader.proofs.sized.Tie as tie
+use Rattle.reader.proofs.sized.Goals as goal
 
-refused-requires : tie.Need-refused-requires
-refused-requires c κs = search rules
-
-returns : tie.Need-returns
+pub returns-then-sum-gt4294967295 : goal.returns-then-sum-gt4294967295
 unfolding on_file sized most32
-returns c = λ a s q.
+returns-then-sum-gt4294967295 c = λ a s q.
     let h : 4294967295 < sum a.fields.opening = omega arith in
     rw (c.refused.ensures, lt-ltb 4294967295 (sum a.fields.opening) h)
 
-refused-requires-2 : tie.Need-refused-requires-2
-refused-requires-2 c κs = search rules
-
-returns-2 : tie.Need-returns-2
+pub returns-then-steps-gt1024 : goal.returns-then-steps-gt1024
 unfolding on_file sized most32
-returns-2 c = λ a s q.
+returns-then-steps-gt1024 c = λ a s q.
     let h : sum a.fields.opening ≤ 4294967295 = omega arith in
     let g : 1024 < length (expansion a) = omega arith in
-    rw (c.refused2.ensures, le-ltb 4294967295 (sum a.fields.opening) h, lt-ltb 1024 (length (expansion a)) g)
+    rw (c.refused-then-steps-gt1024.ensures, le-ltb 4294967295 (sum a.fields.opening) h, lt-ltb 1024 (length (expansion a)) g)
 
-cast-t4 : tie.Need-overflow-cast-t4
-cast-t4 c = search rules
-
-returns-3 : tie.Need-returns-3
+pub returns : goal.returns
 unfolding on_file sized most32
-returns-3 c = λ a s q.
+returns c = λ a s q.
     let h : sum a.fields.opening ≤ 4294967295 = omega arith in
     let g : length (expansion a) ≤ 1024 = omega arith in
     rw (le-ltb 4294967295 (sum a.fields.opening) h, le-ltb 1024 (length (expansion a)) g, q)
-
-pub sized-spec : {M : Type 1} → statement M
-sized-spec =
-    tie.close (tie.spec refused-requires returns refused-requires-2 returns-2 cast-t4 returns-3)

@@ -1,0 +1,37 @@
+-- `reader::accepted` meets its contract.
+use mathlib.Core.Path.{◌≡◌, sym, ap, ◌∙◌}
+use Prim.Native.Nat.{ℕ}
+use native.Mathlib.Omega.{arith}
+use borrow.Author.Rules.{rules}
+use mathlib.Core.List.{[]}
+use mathlib.Core.Option.{none, some}
+use Rattle.rules.specs.declared.Fields.{Fields}
+use Rattle.rules.specs.Basics.{given, sum}
+use Rattle.rules.specs.Accepting.{on_file, first_repeat, accept}
+use Rattle.access.specs.Places.{Laid}
+use Rattle.access.specs.Trees.{TreeRead}
+use Rattle.reader.proofs.Repeats.{repeat-small, repeat-some, repeat-none}
+use Rattle.reader.proofs.accepted.Goals as goal
+
+pub first_repeat-requires : goal.first_repeat-requires
+first_repeat-requires c =
+    let t = c.requires in
+    record { read = t; out = c.layout.ensures t }
+
+pub refused-requires : goal.refused-requires
+refused-requires c =
+    let t = c.requires in
+    let e = repeat-some (first_repeat [] t.tree.transitions) (sym c.in-At.is ∙ c.first_repeat.ensures t) in
+    omega (arith, repeat-small t _ e)
+
+pub returns-in-At : goal.returns-in-At
+unfolding accept on_file given
+returns-in-At c = λ a q.
+    let e = repeat-some (first_repeat [] a.tree.transitions) (sym c.in-At.is ∙ c.first_repeat.ensures a) in
+    rw (c.refused.ensures, e)
+
+pub returns-in-Nowhere : goal.returns-in-Nowhere
+unfolding accept given
+returns-in-Nowhere c = λ a q.
+    let e = repeat-none (first_repeat [] a.tree.transitions) (sym c.in-Nowhere.is ∙ c.first_repeat.ensures a) in
+    rw e (c.sized.ensures a.tree (c.opening_sum.ensures ∙ ap (λ (f : Fields). sum f.opening) (c.fields.ensures a)) q)

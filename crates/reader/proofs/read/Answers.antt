@@ -1,0 +1,42 @@
+-- `reader::read` meets its contract.
+use mathlib.Core.Path.{◌≡◌, sym, ap, ◌∙◌}
+use Prim.Native.Nat.{ℕ}
+use native.Mathlib.Omega.{arith}
+use borrow.Author.Rules.{rules}
+use Rattle.rules.specs.Reading.{read_tree}
+use Rattle.rules.specs.Accepting.{on_file, accepted, file_of, read_file}
+use Rattle.records.proofs.Readers.{came, gone}
+use Rattle.files.specs.Trees.{tree_steps}
+use Rattle.access.specs.Trees.{TreeRead}
+use Rattle.reader.proofs.Places.{place-small}
+use Rattle.reader.proofs.read.Goals as goal
+
+pub refused-requires : goal.refused-requires
+refused-requires c =
+    let e =
+    gone tree_steps (read_tree c.args.file.now)
+    (sym c.in-Refused.is ∙ c.check_file.ensures) in
+    omega (arith, place-small _ _ _ e)
+
+pub accepted-requires : goal.accepted-requires
+accepted-requires c =
+    let e =
+    came tree_steps (read_tree c.args.file.now)
+    (sym c.in-Ok.is ∙ c.check_file.ensures) in
+    record { tree = e.0; to = _; left = e.1; is = e.2 }
+
+pub returns-in-Refused : goal.returns-in-Refused
+unfolding read_file file_of accepted on_file
+returns-in-Refused c =
+    let e =
+    gone tree_steps (read_tree c.args.file.now)
+    (sym c.in-Refused.is ∙ c.check_file.ensures) in
+    rw (c.refused.ensures, e)
+
+pub returns-in-Ok : goal.returns-in-Ok
+unfolding read_file file_of accepted on_file
+returns-in-Ok c =
+    let e =
+    came tree_steps (read_tree c.args.file.now)
+    (sym c.in-Ok.is ∙ c.check_file.ensures) in
+    rw e.2 (c.accepted.ensures (record { tree = e.0; to = _; left = e.1; is = e.2 }) (sym e.3))
