@@ -8,10 +8,10 @@ use Rattle.access.proofs.entries.row.Goals.{After-nth-at}
 use Rattle.access.proofs.entries.row.Goals as goal
 
 fits : (c : After-nth-at) → c.nth-at.result + 28 ≤ length c.args.file.now
-fits c = let s = c in (row_at s.requires.0 s.args.i s.requires.1 s.requires.0.read c.nth-at.result c.nth-at.ensures).fits
+fits c = (row_at c.requires.0 c.args.i c.requires.1 c.requires.0.read c.nth-at.result c.nth-at.ensures).fits
 
 pub nth-at-requires : goal.nth-at-requires
-nth-at-requires c = let s = c in row_before s.requires.0 s.args.i s.requires.1
+nth-at-requires c = row_before c.requires.0 c.args.i c.requires.1
 
 pub overflow_add-result : goal.overflow_add-result
 overflow_add-result c = omega (arith, fits c)
@@ -57,12 +57,6 @@ u32_at-requires-5 c = omega (arith, fits (goal.at.u32_at-requires-5 c).After-nth
 
 pub returns : goal.returns
 returns c =
-    let d = c in
-    let e = d in
-    let f = e in
-    let g = f in
-    let r = g in
-    let s = r in
     λ a.
-    rw (g.u32_at.ensures, f.u32_at-2.ensures, e.u32_at-3.ensures, d.u32_at-4.ensures, c.u32_at-5.ensures)
-    (sym (row_at s.requires.0 s.args.i s.requires.1 a r.nth-at.result r.nth-at.ensures).is)
+    rw (c.u32_at.ensures, c.u32_at-2.ensures, c.u32_at-3.ensures, c.u32_at-4.ensures, c.u32_at-5.ensures)
+    (sym (row_at c.requires.0 c.args.i c.requires.1 a c.nth-at.result c.nth-at.ensures).is)

@@ -3,4 +3,4 @@ use Rattle.access.proofs.Items.{rule-before}
 use Rattle.access.proofs.entries.rule.Goals as goal
 
 pub nth-requires : goal.nth-requires
-nth-requires c = let s = c in rule-before s.requires.0 s.args.i s.requires.1
+nth-requires c = rule-before c.requires.0 c.args.i c.requires.1

@@ -7,7 +7,7 @@ use Rattle.access.proofs.entries.rule_head.Goals.{After-rule-at}
 use Rattle.access.proofs.entries.rule_head.Goals as goal
 
 fits : (c : After-rule-at) → c.rule-at.result + 8 ≤ length c.args.file.now
-fits c = let s = c in (rule-at s.requires.0 s.args.i s.requires.1 s.requires.0.read c.rule-at.result c.rule-at.ensures).is.fits
+fits c = (rule-at c.requires.0 c.args.i c.requires.1 c.requires.0.read c.rule-at.result c.rule-at.ensures).is.fits
 
 pub overflow_add-at : goal.overflow_add-at
 overflow_add-at c = omega (arith, fits c)
@@ -29,7 +29,4 @@ bounds-file-at-2 c = omega (arith, fits (goal.at.bounds-file-at-2 c).After-rule-
 
 pub returns : goal.returns
 returns c =
-    let u = c in
-    let r = u in
-    let s = r in
-    λ a. head_at (rule-at s.requires.0 s.args.i s.requires.1 a r.rule-at.result r.rule-at.ensures) u.u16_at.result u.u16_at.ensures.0
+    λ a. head_at (rule-at c.requires.0 c.args.i c.requires.1 a c.rule-at.result c.rule-at.ensures) c.u16_at.result c.u16_at.ensures.0

@@ -35,5 +35,4 @@ u32_at-requires c = omega (arith, twenty c.requires)
 pub returns : goal.returns
 returns c =
     λ t.
-    let o = c in
-    fields-same (tree-parts t).head c.u16_at.ensures.0 c.u32_at.ensures o.wide.ensures o.opening-opening.ensures
+    fields-same (tree-parts t).head c.u16_at.ensures.0 c.u32_at.ensures c.wide.ensures c.opening-opening.ensures

@@ -12,13 +12,10 @@ loop-i-init c = (omega arith, sym (padded-none c.args.file.now))
 
 pub loop-i-preserved : goal.loop-i-preserved
 loop-i-preserved c =
-    let l = c in
-    let s = l.args.file.now in
-    (omega arith, padded-more l.loop-i.i 16 c.u32_at.result s l.loop-i.a (omega arith) c.u32_at.ensures l.loop-i.invariant.1)
+    let s = c.args.file.now in
+    (omega arith, padded-more c.loop-i.i 16 c.u32_at.result s c.loop-i.a (omega arith) c.u32_at.ensures c.loop-i.invariant.1)
 
 pub returns : goal.returns
 returns c =
-    let l = c in
-    let s = l in
-    let z : l.loop-i.i ≡ s.args.n = omega arith in
-    l.loop-i.invariant.1 ∙ ap (λ (k : ℕ). padded 8 (numbers k 16 s.args.file.now)) z
+    let z : c.loop-i.i ≡ c.args.n = omega arith in
+    c.loop-i.invariant.1 ∙ ap (λ (k : ℕ). padded 8 (numbers k 16 c.args.file.now)) z

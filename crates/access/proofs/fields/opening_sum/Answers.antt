@@ -11,12 +11,10 @@ overflow_add-n c = omega arith
 
 pub loop-i-preserved : goal.loop-i-preserved
 loop-i-preserved c =
-    let s = c in
-    let l = opening-eight s.args.f _ s.well_formed.0 in
-    omega (arith, sum-from s.args.f.opening c.loop-i.i (omega arith))
+    let l = opening-eight c.args.f _ c.well_formed.0 in
+    omega (arith, sum-from c.args.f.opening c.loop-i.i (omega arith))
 
 pub returns : goal.returns
 returns c =
-    let s = c in
-    let l = opening-eight s.args.f _ s.well_formed.0 in
-    omega (arith, sum-none s.args.f.opening c.loop-i.i (omega arith))
+    let l = opening-eight c.args.f _ c.well_formed.0 in
+    omega (arith, sum-none c.args.f.opening c.loop-i.i (omega arith))

@@ -12,15 +12,13 @@ use Rattle.access.proofs.places.children.Goals as goal
 -- one more record, of n bytes
 one :
     (c : In-loop-end) (n : ℕ) →
-    let l = c in
-    let file = l.args.file.now in
-    n ≡ number (take 2 (drop l.loop-end.end file)) → (4 ≤ n) × (l.loop-end.end + n ≤ length file)
+    let file = c.args.file.now in
+    n ≡ number (take 2 (drop c.loop-end.end file)) → (4 ≤ n) × (c.loop-end.end + n ≤ length file)
 one c n e =
-    let l = c in
-    let g = l.requires in
-    let v = l.loop-end.invariant in
-    let h = goes_on g l.loop-end.count l.loop-end.end v.0 (v.3 g) (sym c.loop-end-test.true ∙ c.comes.ensures) in
-    room _ l.loop-end.count l.loop-end.end n v.0 e (g.row l.loop-end.count h)
+    let g = c.requires in
+    let v = c.loop-end.invariant in
+    let h = goes_on g c.loop-end.count c.loop-end.end v.0 (v.3 g) (sym c.loop-end-test.true ∙ c.comes.ensures) in
+    room _ c.loop-end.count c.loop-end.end n v.0 e (g.row c.loop-end.count h)
 
 pub loop-end-init : goal.loop-end-init
 unfolding past
@@ -40,23 +38,21 @@ loop-end-smaller c = omega (arith, one (goal.at.loop-end-smaller c).In-loop-end 
 
 pub loop-end-preserved : goal.loop-end-preserved
 loop-end-preserved c =
-    let l = c in
-    let a = l.args in
-    let v = l.loop-end.invariant in
+    let a = c.args in
+    let v = c.loop-end.invariant in
     let o = one (goal.at.loop-end-preserved c).In-loop-end _ c.u16_at-end.ensures.0 in (
-      further a.file.now a.at l.loop-end.count l.loop-end.end c.u16_at-end.result v.0 c.u16_at-end.ensures.0,
+      further a.file.now a.at c.loop-end.count c.loop-end.end c.u16_at-end.result v.0 c.u16_at-end.ensures.0,
       o.1,
       omega (arith, o.0, v.2),
-      λ g. omega (arith, goes_on g l.loop-end.count l.loop-end.end v.0 (v.3 g) (sym c.loop-end-test.true ∙ c.comes.ensures)),
+      λ g. omega (arith, goes_on g c.loop-end.count c.loop-end.end v.0 (v.3 g) (sym c.loop-end-test.true ∙ c.comes.ensures)),
     )
 
 pub returns : goal.returns
 returns c =
-    let l = c in
-    let a = l.args in
-    let v = l.loop-end.invariant in
+    let a = c.args in
+    let v = c.loop-end.invariant in
     λ g.
-    let z = stops g l.loop-end.count l.loop-end.end v.0 (v.3 g) (sym c.loop-end-test.false ∙ c.comes.ensures) in
+    let z = stops g c.loop-end.count c.loop-end.end v.0 (v.3 g) (sym c.loop-end-test.false ∙ c.comes.ensures) in
     group-same a.at z (v.0 ∙ ap (past a.file.now a.at) z)
 
 pub comes-requires : goal.comes-requires

@@ -12,10 +12,9 @@ use Rattle.access.proofs.places.nth.Goals as goal
 -- the record that is passed, of n bytes
 one :
     (c : In-loop-k) (n : ℕ) →
-    let l = c in
-    let file = l.args.file.now in
-    n ≡ number (take 2 (drop l.loop-k.to file)) → (4 ≤ n) × (l.loop-k.to + n ≤ length file)
-one c n e = let l = c in room _ l.loop-k.k l.loop-k.to n l.loop-k.invariant.1 e (l.requires l.loop-k.k (omega arith))
+    let file = c.args.file.now in
+    n ≡ number (take 2 (drop c.loop-k.to file)) → (4 ≤ n) × (c.loop-k.to + n ≤ length file)
+one c n e = room _ c.loop-k.k c.loop-k.to n c.loop-k.invariant.1 e (c.requires c.loop-k.k (omega arith))
 
 pub loop-k-init : goal.loop-k-init
 unfolding past
@@ -29,13 +28,11 @@ overflow_add-to c = omega (arith, one (goal.at.overflow_add-to c).In-loop-k _ c.
 
 pub loop-k-preserved : goal.loop-k-preserved
 loop-k-preserved c =
-    let l = c in
-    let a = l.args in
-    (omega arith, further a.file.now a.at l.loop-k.k l.loop-k.to c.u16_at-to.result l.loop-k.invariant.1 c.u16_at-to.ensures.0)
+    let a = c.args in
+    (omega arith, further a.file.now a.at c.loop-k.k c.loop-k.to c.u16_at-to.result c.loop-k.invariant.1 c.u16_at-to.ensures.0)
 
 pub returns : goal.returns
 returns c =
-    let l = c in
-    let a = l.args in
-    let z : l.loop-k.k ≡ a.i = omega arith in
-    l.loop-k.invariant.1 ∙ ap (past a.file.now a.at) z
+    let a = c.args in
+    let z : c.loop-k.k ≡ a.i = omega arith in
+    c.loop-k.invariant.1 ∙ ap (past a.file.now a.at) z

@@ -19,10 +19,10 @@ use Rattle.access.proofs.transitions.find_transition.Goals as goal
 one :
     (c : In-loop-i) (a : TreeRead c.args.file.now) →
     Here c.args.file.now a.tree c.loop-i.at c.loop-i.i
-one c a = let l = c in here l.requires l.loop-i.i l.loop-i.at (omega arith) l.loop-i.invariant.1 a
+one c a = here c.requires c.loop-i.i c.loop-i.at (omega arith) c.loop-i.invariant.1 a
 
 look : (c : In-loop-i) → Looked c.args.file.now c.loop-i.at
-look c = let l = c in looked l.requires l.loop-i.i l.loop-i.at (omega arith) l.loop-i.invariant.1
+look c = looked c.requires c.loop-i.i c.loop-i.at (omega arith) c.loop-i.invariant.1
 
 pub loop-i-init : goal.loop-i-init
 unfolding past
@@ -42,11 +42,9 @@ bounds-file-at-then-file-at c = omega (arith, (look (goal.at.bounds-file-at-then
 
 pub returns-then-wide-state : goal.returns-then-wide-state
 returns-then-wide-state c =
-    let w = c in
     let v = (goal.at.returns-then-wide-state c).In-loop-i in
-    let l = v in
-    let s = l.args in
-    λ a. sym (l.loop-i.invariant.2 a ∙ find-here (one v a) s.name s.state l.loop-i.elsewhere w.if-file-at.true (sym w.wide.ensures ∙ c.if-wide-state.true))
+    let s = v.args in
+    λ a. sym (v.loop-i.invariant.2 a ∙ find-here (one v a) s.name s.state v.loop-i.elsewhere c.if-file-at.true (sym c.wide.ensures ∙ c.if-wide-state.true))
 
 pub u16_at-at-requires : goal.u16_at-at-requires
 u16_at-at-requires c = omega (arith, (look (goal.at.u16_at-at-requires c).In-loop-i).fits)
@@ -57,14 +55,13 @@ overflow_add-at-in-loop-i c = omega (arith, (look (goal.at.overflow_add-at-in-lo
 pub loop-i-preserved : goal.loop-i-preserved
 loop-i-preserved c =
     let v = (goal.at.loop-i-preserved c).In-loop-i in
-    let l = v in
-    let s = l.args in
-    let e = l.loop-i.elsewhere in (
+    let s = v.args in
+    let e = v.loop-i.elsewhere in (
       omega arith,
-      further s.file.now _ l.loop-i.i l.loop-i.at c.u16_at-at.result l.loop-i.invariant.1 c.u16_at-at.ensures.0,
+      further s.file.now _ v.loop-i.i v.loop-i.at c.u16_at-at.result v.loop-i.invariant.1 c.u16_at-at.ensures.0,
       λ a.
-          let left : Bool → Found = λ b. Left b s.name s.state (drop (l.loop-i.i + 1) a.tree.transitions) in
-          l.loop-i.invariant.2 a
+          let left : Bool → Found = λ b. Left b s.name s.state (drop (v.loop-i.i + 1) a.tree.transitions) in
+          v.loop-i.invariant.2 a
           ∙ elim c.if-file-at.branch [
             | then-file-at+else-wide-state w ↦
                 find-other (one v a) s.name s.state e w.if-file-at.true (λ z. w.if-wide-state.false (w.wide.ensures ∙ z)) ∙ ap left (sym w.elsewhere-is)

@@ -13,10 +13,10 @@ use Rattle.access.proofs.transitions.first_repeat.Goals as goal
 one :
     (c : In-loop-i) (a : TreeRead c.args.file.now) →
     Here c.args.file.now a.tree c.loop-i.at c.loop-i.i
-one c a = let l = c in here l.requires l.loop-i.i l.loop-i.at (omega arith) l.loop-i.invariant.1 a
+one c a = here c.requires c.loop-i.i c.loop-i.at (omega arith) c.loop-i.invariant.1 a
 
 look : (c : In-loop-i) → Looked c.args.file.now c.loop-i.at
-look c = let l = c in looked l.requires l.loop-i.i l.loop-i.at (omega arith) l.loop-i.invariant.1
+look c = looked c.requires c.loop-i.i c.loop-i.at (omega arith) c.loop-i.invariant.1
 
 pub loop-i-init : goal.loop-i-init
 unfolding past
@@ -50,14 +50,12 @@ overflow_add-at-in-loop-i-2 c = omega (arith, (look (goal.at.overflow_add-at-in-
 
 pub loop-i-preserved : goal.loop-i-preserved
 loop-i-preserved c =
-    let v = (goal.at.loop-i-preserved c).In-loop-i in
-    let l = v in (
+    let v = (goal.at.loop-i-preserved c).In-loop-i in (
       omega arith,
-      further l.args.file.now _ l.loop-i.i l.loop-i.at c.u16_at-at.result l.loop-i.invariant.1 c.u16_at-at.ensures.0,
-      λ a. repeat-next (one v a) (l.loop-i.invariant.2 a) (sym c.if-is_among.false ∙ c.is_among.ensures a),
+      further v.args.file.now _ v.loop-i.i v.loop-i.at c.u16_at-at.result v.loop-i.invariant.1 c.u16_at-at.ensures.0,
+      λ a. repeat-next (one v a) (v.loop-i.invariant.2 a) (sym c.if-is_among.false ∙ c.is_among.ensures a),
     )
 
 pub returns : goal.returns
 returns c =
-    let l = c in
-    λ a. sym (ap repeat_of (repeat-end (l.loop-i.invariant.2 a) (all-passed l.requires a l.loop-i.i (omega arith))))
+    λ a. sym (ap repeat_of (repeat-end (c.loop-i.invariant.2 a) (all-passed c.requires a c.loop-i.i (omega arith))))

@@ -16,10 +16,10 @@ use Rattle.access.proofs.transitions.is_among.Goals as goal
 one :
     (c : In-loop-i) (a : TreeRead c.args.file.now) →
     Here c.args.file.now a.tree c.loop-i.at c.loop-i.i
-one c a = let l = c in here l.requires.0 l.loop-i.i l.loop-i.at (omega arith) l.loop-i.invariant.1 a
+one c a = here c.requires.0 c.loop-i.i c.loop-i.at (omega arith) c.loop-i.invariant.1 a
 
 look : (c : In-loop-i) → Looked c.args.file.now c.loop-i.at
-look c = let l = c in looked l.requires.0 l.loop-i.i l.loop-i.at (omega arith) l.loop-i.invariant.1
+look c = looked c.requires.0 c.loop-i.i c.loop-i.at (omega arith) c.loop-i.invariant.1
 
 pub loop-i-init : goal.loop-i-init
 unfolding past any
@@ -52,20 +52,18 @@ overflow_add-at-in-loop-i c = omega (arith, (look (goal.at.overflow_add-at-in-lo
 pub loop-i-preserved : goal.loop-i-preserved
 loop-i-preserved c =
     let v = (goal.at.loop-i-preserved c).In-loop-i in
-    let l = v in
-    let s = l.args in (
+    let s = v.args in (
       omega arith,
-      further s.file.now _ l.loop-i.i l.loop-i.at c.u16_at-at.result l.loop-i.invariant.1 c.u16_at-at.ensures.0,
+      further s.file.now _ v.loop-i.i v.loop-i.at c.u16_at-at.result v.loop-i.invariant.1 c.u16_at-at.ensures.0,
       λ a.
           elim c.if-file-at.branch [
-            | then-file-at+else-file-at-2 w ↦ among-no-origin (one v a) s.n s.name s.from w.if-file-at.true w.if-file-at-2.false (l.loop-i.invariant.2 a)
-            | else-file-at w ↦ among-no-name (one v a) s.n s.name s.from w.if-file-at.false (l.loop-i.invariant.2 a)
+            | then-file-at+else-file-at-2 w ↦ among-no-origin (one v a) s.n s.name s.from w.if-file-at.true w.if-file-at-2.false (v.loop-i.invariant.2 a)
+            | else-file-at w ↦ among-no-name (one v a) s.n s.name s.from w.if-file-at.false (v.loop-i.invariant.2 a)
           ],
     )
 
 pub returns : goal.returns
 returns c =
-    let l = c in
-    let s = l.args in
-    let z : s.n ≡ l.loop-i.i = omega arith in
-    λ a. sym (ap (λ (k : ℕ). any (same s.name s.from) (take k a.tree.transitions)) z ∙ l.loop-i.invariant.2 a)
+    let s = c.args in
+    let z : s.n ≡ c.loop-i.i = omega arith in
+    λ a. sym (ap (λ (k : ℕ). any (same s.name s.from) (take k a.tree.transitions)) z ∙ c.loop-i.invariant.2 a)
