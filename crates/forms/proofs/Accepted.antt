@@ -8,9 +8,10 @@ use mathlib.Core.List.{List, [], ◌∷◌, append-nil}
 use lib.ListN.{length}
 use lib.Dec.{eqb, ltb, leb}
 use borrow.Author.Tests.{ltb-true}
+use Rattle.std.specs.Prelude.{if◌then◌else◌}
 use Rattle.rules.specs.declared.Fields.{Fields}
 use Rattle.rules.specs.declared.Refusal.{Refusal}
-use Rattle.rules.specs.Basics.{if◌then◌else◌, choose, given, has, sum, most32}
+use Rattle.rules.specs.Basics.{choose, given, has, sum, most32}
 use Rattle.rules.specs.Syntax.{Expr, Simple, Stmt, simple, block, if_then, if_else, while, for, Stmts, last, ◌then◌, Transition, Agreement}
 use Rattle.rules.specs.Reading.{Reading, refused, read, Reader, ◌>>=◌, ◌>>◌, pure, here, room, is_empty, comes, refuse, in_range, field, fields, zero_byte}
 use Rattle.rules.specs.Reading.{kind_of, size_of, child, only, group, no_more, statements, statement_body, expression, loop_set, statement, simples}

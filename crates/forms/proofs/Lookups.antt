@@ -8,8 +8,9 @@ use mathlib.Core.Option.{Option, some}
 use mathlib.Core.List.{List, [], ◌∷◌, ◌++◌, append-nil}
 use lib.Dec.{eqb}
 use borrow.Author.Tests.{eq-eqb, ne_eqb}
+use Rattle.std.specs.Prelude.{if◌then◌else◌}
 use Rattle.rules.specs.declared.Fields.{Fields}
-use Rattle.rules.specs.Basics.{if◌then◌else◌, find}
+use Rattle.rules.specs.Basics.{find}
 use Rattle.rules.specs.Syntax.{Simple, Stmt, simple, block, if_then, if_else, while, for, Stmts, last, ◌then◌}
 use Rattle.rules.specs.Expanding.{Step, step, step_of, joints, made, made_all, expand, expand_all}
 use Rattle.rules.specs.Stepping.{leaving, step_from, target_in}

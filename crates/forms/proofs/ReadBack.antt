@@ -9,7 +9,8 @@ use lib.ListN.{length, take, drop, length-drop, take-append-drop}
 use lib.Seq.{take-append-le, drop-append-le, drop-drop}
 use lib.Dec.{eqb, leb}
 use borrow.Author.Tests.{leb-true}
-use Rattle.rules.specs.Basics.{if◌then◌else◌, choose, any, has, part, number}
+use Rattle.std.specs.Prelude.{if◌then◌else◌}
+use Rattle.rules.specs.Basics.{choose, any, has, part, number}
 use Rattle.rules.specs.Syntax.{Expr, Simple, Stmt, simple}
 use Rattle.rules.specs.Reading.{Reading, refused, read, Reader, after, ◌>>=◌, ◌>>◌, pure, refuse, in_range, field, closed, size_of, kind_of, whole, child}
 use Rattle.rules.specs.Reading.{expression_body, expression, set_body, simples, placed, loop_set, only, tree_of, expr_at, simple_at}

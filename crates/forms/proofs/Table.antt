@@ -7,8 +7,9 @@ use mathlib.Core.Bool.{Bool, true, false, ◌&&◌, ◌||◌}
 use mathlib.Core.Option.{Option, none, some}
 use mathlib.Core.List.{List, [], ◌∷◌, ◌++◌}
 use lib.Dec.{eqb}
+use Rattle.std.specs.Prelude.{if◌then◌else◌}
 use Rattle.rules.specs.declared.Fields.{Fields}
-use Rattle.rules.specs.Basics.{if◌then◌else◌, any, find}
+use Rattle.rules.specs.Basics.{any, find}
 use Rattle.rules.specs.Syntax.{Simple, set, transfer, require, return, Transition, Agreement}
 use Rattle.rules.specs.Syntax.{Stmt, simple, block, if_then, if_else, while, for, Stmts, last, ◌then◌}
 use Rattle.rules.specs.Expanding.{Step, step, step_of, step_kind, made, expand, expand_all, expand_transitions, expansion}

@@ -11,12 +11,13 @@ use lib.ListN.{length, get_or, drop, length-set}
 use lib.ListN
 use lib.Seq.{drop-set-lt}
 use borrow.Author.Tests.{ltb-true, leb-true}
+use Rattle.std.specs.Prelude.{if◌then◌else◌}
 use Rattle.rules.specs.declared.Fields.{Fields}
 use Rattle.rules.specs.declared.Machine.{Machine}
 use Rattle.rules.specs.declared.State.{State}
 use Rattle.rules.specs.declared.Value.{Value}
 use Rattle.rules.specs.declared.Value.TheVariants.{Is, Failed}
-use Rattle.rules.specs.Basics.{if◌then◌else◌, sum}
+use Rattle.rules.specs.Basics.{sum}
 use Rattle.rules.specs.Syntax.{Expr, Simple, set, transfer, require, return, Stmt, simple, block, if_then, if_else, while, for}
 use Rattle.rules.specs.Syntax.{Stmts, last, ◌then◌}
 use Rattle.rules.specs.Values.{evaluate, is_true}

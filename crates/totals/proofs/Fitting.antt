@@ -8,12 +8,13 @@ use mathlib.Core.Option.{Option, none, some}
 use mathlib.Core.List.{List, [], ◌∷◌}
 use lib.ListN.{length, get_or, drop, replicate}
 use borrow.Author.Tests.{ltb-false, leb-false, eqb-true, not-false, lt-leb, eq-eqb}
+use Rattle.std.specs.Prelude.{if◌then◌else◌}
 use Rattle.rules.specs.declared.Call.{Call}
 use Rattle.rules.specs.declared.Fields.{Fields}
 use Rattle.rules.specs.declared.Machine.{Machine}
 use Rattle.rules.specs.declared.Outcome.{Outcome}
 use Rattle.rules.specs.declared.State.{State}
-use Rattle.rules.specs.Basics.{if◌then◌else◌, first_of, any, find, sum}
+use Rattle.rules.specs.Basics.{first_of, any, find, sum}
 use Rattle.rules.specs.Syntax.{Transition, Agreement}
 use Rattle.rules.specs.Accepting.{good, file_of, on_file}
 use Rattle.rules.specs.Values.{is_true}

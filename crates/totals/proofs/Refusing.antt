@@ -7,6 +7,7 @@ use mathlib.Core.Option.{Option, none, some}
 use mathlib.Core.List.{List}
 use lib.ListN.{length, get_elem?}
 use native.Mathlib.Omega.{arith}
+use Rattle.std.specs.Prelude.{if◌then◌else◌}
 use Rattle.rules.specs.declared.Call.{Call}
 use Rattle.rules.specs.declared.Counted.{Counted}
 use Rattle.rules.specs.declared.Counted.TheVariants as counted
@@ -17,7 +18,7 @@ use Rattle.rules.specs.declared.Machine.{Machine}
 use Rattle.rules.specs.declared.Outcome.{Outcome}
 use Rattle.rules.specs.declared.Refusal.{Refusal}
 use Rattle.rules.specs.declared.State.{State}
-use Rattle.rules.specs.Basics.{if◌then◌else◌, first_of, given}
+use Rattle.rules.specs.Basics.{first_of, given}
 use Rattle.rules.specs.Syntax.{Agreement}
 use Rattle.rules.specs.Accepting.{refusal, File, bad, good, file_of, on_file, Lent, lent, too_few, written, expand_file}
 use Rattle.rules.specs.Running.{Setting}

@@ -12,8 +12,9 @@ use lib.Dec.{eqb, ltb, leb}
 use lib.ListN.{length, drop, replicate, length-append, length-replicate}
 use lib.Seq.{drop_at}
 use borrow.Author.Tests.{ltb-true, ltb-false, leb-true}
+use Rattle.std.specs.Prelude.{if◌then◌else◌}
 use Rattle.rules.specs.declared.Fields.{Fields}
-use Rattle.rules.specs.Basics.{if◌then◌else◌, choose, given, any, sum, padded, most32}
+use Rattle.rules.specs.Basics.{choose, given, any, sum, padded, most32}
 use Rattle.rules.specs.Syntax.{Expr, Simple, set, transfer, require, return, Stmt, simple, block, if_then, if_else, while, for}
 use Rattle.rules.specs.Syntax.{Stmts, last, ◌then◌, Transition, Agreement}
 use Rattle.rules.specs.Reading.{Reading, refused, read, Reader, after, ◌>>=◌, ◌>>◌, pure, self, here, room, at_end, refuse, in_range}

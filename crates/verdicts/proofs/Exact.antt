@@ -14,7 +14,7 @@ use mathlib.Core.List.{List, [], ◌∷◌}
 use mathlib.Core.Logic.{◌↔◌}
 use lib.Dec.{leb, leb-zero, leb-suc-zero, leb-suc-suc}
 use lib.ListN.{length, take}
-use Rattle.rules.specs.Basics.{if◌then◌else◌}
+use Rattle.std.specs.Prelude.{if◌then◌else◌}
 use Rattle.rules.specs.Lists.{At, here, there}
 use Rattle.rules.specs.Judging.{Ruling, broken, held, spent, First, at, nowhere, first, first_from, ruled_by, ruled_on, ruling}
 use Rattle.rules.specs.Judging.{breaking, lists_for}
