@@ -1,6 +1,7 @@
 -- What is known of an expression record that the reading accepts: one law for each kind, from the tree to its parts.
 -- n is the record's length, as its first field says; a child's length is what stands at the child's start.
 -- Assumes nothing.
+use Rattle.std.specs.Prelude.{if◌then◌else◌}
 use Prim.Native.Nat.{ℕ, zero, suc, ◌+◌, ◌≤◌, ◌<◌}
 use mathlib.Core.Path.{◌≡◌, refl, sym, subst₂, ◌∙◌}
 use mathlib.Core.Bool.{Bool, true, false, ◌&&◌}
@@ -9,7 +10,7 @@ use native.Mathlib.Omega.{arith}
 use lib.Dec.{ltb, leb}
 use lib.ListN.{length, take, drop}
 use borrow.Author.Tests.{ltb-true, ne_eqb}
-use Rattle.rules.specs.Basics.{if◌then◌else◌, choose, part, number}
+use Rattle.rules.specs.Basics.{choose, part, number}
 use Rattle.rules.specs.Syntax.{Expr, constant, variable, local, argument, context, binary, not}
 use Rattle.rules.specs.Reading.{read, Reader, ◌>>=◌, ◌>>◌, pure, refuse, in_range, field, size_of, kind_of, expression_body, expression}
 use Rattle.records.specs.Acceptance.{Accepted}

@@ -1,5 +1,6 @@
 -- A record that is read in one place is read in any other: with more levels left, with another parent's offset, and whatever bytes follow it.
 -- Assumes nothing.
+use Rattle.std.specs.Prelude.{if◌then◌else◌}
 use Prim.Native.Nat.{ℕ, zero, suc, ◌+◌, ◌-◌, ◌≤◌}
 use mathlib.Core.Path.{◌≡◌, refl, sym, ap, ◌∙◌}
 use mathlib.Core.Bool.{Bool, true, false}
@@ -8,7 +9,7 @@ use native.Mathlib.Omega.{arith}
 use lib.Dec.{eqb, ltb}
 use lib.ListN.{length, take, drop, length-take}
 use lib.Seq.{take-take}
-use Rattle.rules.specs.Basics.{if◌then◌else◌, choose, part, number}
+use Rattle.rules.specs.Basics.{choose, part, number}
 use Rattle.rules.specs.Syntax.{Expr, binary, not, Simple, set, transfer, require, return}
 use Rattle.rules.specs.Reading.{read, Reader, ◌>>=◌, ◌>>◌, pure, refuse, in_range, field, size_of, kind_of, whole, child}
 use Rattle.rules.specs.Reading.{simples, set_body, expression_body, expression}

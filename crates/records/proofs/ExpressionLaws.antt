@@ -1,5 +1,6 @@
 -- Laws of the reading of expressions: how far it goes, and what the check makes of a record by its length, level and kind.
 -- Assumes nothing.
+use Rattle.std.specs.Prelude.{if◌then◌else◌}
 use Prim.Native.Nat.{ℕ, zero, suc, ◌+◌, ◌-◌, ◌≤◌}
 use mathlib.Core.Path.{◌≡◌, refl}
 use mathlib.Core.Bool.{Bool, true, false, ◌&&◌}
@@ -7,7 +8,7 @@ use mathlib.Core.List.{List}
 use native.Mathlib.Omega.{arith}
 use native.Mathlib.Numerals.{sub-one}
 use lib.Dec.{ltb, leb}
-use Rattle.rules.specs.Basics.{if◌then◌else◌, part}
+use Rattle.rules.specs.Basics.{part}
 use Rattle.rules.specs.Syntax.{Expr, constant, variable, local, argument, context, binary, not}
 use Rattle.rules.specs.Reading.{refused, Reader, ◌>>=◌, ◌>>◌, pure, refuse, in_range, field, kind_of, whole, expression_body, expression}
 use Rattle.records.specs.Checking.{outcome, no_steps, ended}

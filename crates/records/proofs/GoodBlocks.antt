@@ -1,12 +1,12 @@
 -- What is known of a block's statements that the reading accepts: the first one, and what is left after it.
 -- Assumes nothing.
+use Rattle.std.specs.Prelude.{if◌then◌else◌}
 use Prim.Native.Nat.{ℕ, zero, suc, ◌+◌, ◌-◌, ◌≤◌, ◌<◌}
 use mathlib.Core.Path.{◌≡◌, refl, sym, ap, subst, subst₂, ◌∙◌}
 use mathlib.Core.Bool.{Bool}
 use mathlib.Core.List.{List}
 use native.Mathlib.Omega.{arith}
 use lib.ListN.{length}
-use Rattle.rules.specs.Basics.{if◌then◌else◌}
 use Rattle.rules.specs.Syntax.{Stmt, Stmts, last, ◌then◌}
 use Rattle.rules.specs.Reading.{read, Reader, ◌>>=◌, pure, at_end, size_of, statements, statement}
 use Rattle.records.specs.Checking.{from}

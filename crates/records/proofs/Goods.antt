@@ -1,6 +1,7 @@
 -- What is known of a statement record that the reading accepts: one law for each kind, from the tree to its parts.
 -- n is the record's length, as its first field says; a child's length is what stands at the child's start.
 -- Assumes nothing.
+use Rattle.std.specs.Prelude.{if◌then◌else◌}
 use Prim.Native.Nat.{ℕ, zero, suc, ◌+◌, ◌≤◌}
 use mathlib.Core.Path.{◌≡◌, refl, sym, ap, subst₂, ◌∙◌}
 use mathlib.Core.Bool.{Bool, true, false}
@@ -9,7 +10,7 @@ use native.Mathlib.Omega.{arith}
 use lib.Dec.{eqb}
 use lib.ListN.{length, take, drop}
 use borrow.Author.Tests.{eqb-true, ne_eqb}
-use Rattle.rules.specs.Basics.{if◌then◌else◌, choose, part, number}
+use Rattle.rules.specs.Basics.{choose, part, number}
 use Rattle.rules.specs.Syntax.{Expr, Simple, Stmt, simple, block, if_then, if_else, while, for}
 use Rattle.rules.specs.Reading.{read, Reader, ◌>>=◌, pure, self, here, refuse, only, size_of, kind_of}
 use Rattle.rules.specs.Reading.{statements, expression, placed, simples, statement_body, set_body, loop_set, statement}

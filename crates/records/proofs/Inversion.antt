@@ -1,12 +1,13 @@
 -- What is known of a record that was read: its fields and children, where they stand in the record.
 -- Assumes nothing.
+use Rattle.std.specs.Prelude.{if◌then◌else◌}
 use Prim.Native.Nat.{ℕ, ◌+◌, ◌-◌, ◌≤◌}
 use mathlib.Core.Path.{◌≡◌, refl, sym, ap, ap₂, subst, subst₂, ◌∙◌}
 use mathlib.Core.Bool.{Bool, true, false}
 use mathlib.Core.List.{List}
 use native.Mathlib.Omega.{arith}
 use lib.ListN.{length, take, drop}
-use Rattle.rules.specs.Basics.{if◌then◌else◌, has, part, number}
+use Rattle.rules.specs.Basics.{has, part, number}
 use Rattle.rules.specs.Reading.{Reading, refused, read, Reader, after, ◌>>=◌, ◌>>◌, refuse, in_range, field, size_of, child}
 use Rattle.records.proofs.Parts.{has-length, part_length, part-drop, part-number}
 use Rattle.records.proofs.Readers.{Steady, unread, child-read, child-ends, refused-never}

@@ -1,5 +1,6 @@
 -- Laws of readers: how far they go, and what the check makes of readers in a row and of a child record.
 -- Assumes nothing.
+use Rattle.std.specs.Prelude.{if◌then◌else◌}
 use Prim.Native.Nat.{ℕ, ◌+◌, ◌-◌, ◌≤◌, ◌<◌}
 use mathlib.Core.Path.{◌≡◌, refl, sym, ap, subst, ◌∙◌}
 use mathlib.Core.Bool.{Bool, true, false}
@@ -9,7 +10,7 @@ use lib.Dec.{eqb}
 use lib.ListN.{length, take, drop, length-drop}
 use lib.Seq.{drop-drop}
 use borrow.Author.Tests.{lt-ltb, le-ltb}
-use Rattle.rules.specs.Basics.{if◌then◌else◌, choose, has, part, number}
+use Rattle.rules.specs.Basics.{choose, has, part, number}
 use Rattle.rules.specs.Reading.{Reading, refused, read, Reader, after, ◌>>=◌, ◌>>◌, pure, refuse, in_range, field, closed, size_of, kind_of, whole, child}
 use Rattle.records.specs.Checking.{outcome, no_steps, ended, counted, added, onward, from, Within, ranged, pair}
 use Rattle.records.specs.declared.Checked.TheVariants.{Ok, Refused}

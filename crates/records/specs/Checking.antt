@@ -1,6 +1,6 @@
 -- A reading as the check answers it, and how answers are put together.
-use Rattle.std.specs.Prelude.{ℕ, ◌+◌, ◌-◌, ◌≤◌, Bool, List, length, ltb}
-use Rattle.rules.specs.Basics.{if◌then◌else◌, part}
+use Rattle.std.specs.Prelude.{ℕ, ◌+◌, ◌-◌, ◌≤◌, Bool, List, length, ltb, if◌then◌else◌}
+use Rattle.rules.specs.Basics.{part}
 use Rattle.rules.specs.Reading.{Reading, refused, read, Reader, ◌>>=◌, ◌>>◌, pure, in_range, field, size_of, whole}
 use Rattle.records.specs.declared.Checked.{Checked}
 use Rattle.records.specs.declared.Checked.TheVariants.{Ok, Refused}
