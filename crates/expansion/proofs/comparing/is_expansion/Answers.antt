@@ -18,7 +18,7 @@ pub same_words-requires : goal.same_words-requires
 same_words-requires c =
     let w = c in
     let p = w.requires in
-    (p.1, omega (arith, p.0.1, few-steps p.0.0, w.write_expansion.auto.1.0, length-replicate {A = ℕ} 5120 0))
+    (p.1, omega (arith, p.0.1, few-steps p.0.0, w.write_expansion.auto.words, length-replicate {A = ℕ} 5120 0))
 
 pub returns : goal.returns
 returns c =
