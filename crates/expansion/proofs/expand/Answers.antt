@@ -1,7 +1,6 @@
 -- `expand` meets its contract.
 use mathlib.Core.Path.{sym, ◌∙◌}
 use native.Mathlib.Omega.{arith}
-use borrow.Author.Rules.{rules}
 use Rattle.access.proofs.Using.{counted-file, refused-file}
 use Rattle.expansion.proofs.Answers.{expand-refused, expand-few, expand-written}
 use Rattle.expansion.proofs.expand.Goals as goal

@@ -4,7 +4,6 @@ use mathlib.Core.Path.{◌≡◌, ap, ◌∙◌}
 use mathlib.Core.List.{List}
 use native.Mathlib.Omega.{arith}
 use lib.ListN.{length}
-use borrow.Author.Rules.{rules}
 use Rattle.rules.specs.declared.Fields.{Fields}
 use Rattle.access.specs.declared.Layout.{Layout}
 use Rattle.access.specs.Places.{Laid}

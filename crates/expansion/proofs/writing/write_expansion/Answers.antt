@@ -1,19 +1,17 @@
--- The actions and the first i transitions have been written.
-use Prim.Native.Nat.{ℕ, ◌-◌, ◌≤◌, ◌<◌}
-use mathlib.Core.Path.{◌≡◌, refl, ◌∙◌}
+-- `write_expansion` meets its contract.
+use Prim.Native.Nat.{ℕ}
+use mathlib.Core.Path.{refl}
 use native.Mathlib.Omega.{arith}
 use mathlib.Core.List.{List}
-use lib.ListN.{length}
-use borrow.Author.Rules.{rules}
 use Rattle.access.specs.declared.Layout.{Layout}
-use Rattle.access.specs.Trees.{TreeRead, AcceptedFile}
+use Rattle.access.specs.Trees.{TreeRead}
 use Rattle.access.specs.Places.{past, LaidOut, Laid}
 use Rattle.access.proofs.Groups.{further}
 use Rattle.access.proofs.Finding.{Looked, looked, all-passed}
 use Rattle.access.proofs.Using.{counts, tree-bounds, tree_of}
 use Rattle.expansion.specs.Writing.{Writable}
 use Rattle.expansion.proofs.Files.{has_room}
-use Rattle.expansion.proofs.Transitions.{Reached, reached-none, next-ready, next-reached, all-written}
+use Rattle.expansion.proofs.Transitions.{reached-none, next-ready, next-reached, all-written}
 use Rattle.expansion.proofs.writing.write_expansion.Goals.{In-loop-i}
 use Rattle.expansion.proofs.writing.write_expansion.Goals as goal
 
