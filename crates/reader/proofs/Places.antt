@@ -1,16 +1,16 @@
 -- The place of refusals 1 to 5 lies in the file, at its end at the latest, so it is at most 32,768 (place-small).
-use mathlib.Core.Path.{◌≡◌, refl, sym, ap, ◌∙◌}
-use Prim.Native.Nat.{ℕ, zero, suc, ◌+◌, ◌-◌, ◌≤◌}
+use mathlib.Core.Path.{◌≡◌, refl}
+use Prim.Native.Nat.{ℕ, zero, suc, ◌+◌, ◌≤◌}
 use native.Mathlib.Omega.{arith}
 use mathlib.Core.Bool.{Bool, true, false, ◌&&◌}
-use mathlib.Core.List.{List, [], ◌∷◌, ◌++◌, map}
+use mathlib.Core.List.{List, [], ◌∷◌}
 use lib.Dec.{eqb, leb}
 use lib.ListN.{length, take, drop, length-drop}
 use borrow.Author.Tests.{leb-true}
 use Rattle.rules.specs.Basics.{if◌then◌else◌, choose, has, part, number}
-use Rattle.rules.specs.Syntax.{Expr, Simple, Stmt, block, Stmts, last, ◌then◌, Agreement}
+use Rattle.rules.specs.Syntax.{Expr, Simple, Stmt, block, last, ◌then◌, Agreement}
 use Rattle.rules.specs.Reading.{Reading, refused, read, Reader, after, ◌>>=◌, ◌>>◌, pure, is_empty, at_end, comes, refuse, in_range, field, fields, zero_byte, closed, size_of, kind_of, whole}
-use Rattle.rules.specs.Reading.{child, only, group, no_more, statements, expression_body, expression, placed, named, set_body, simples, statement_body, loop_set, statement}
+use Rattle.rules.specs.Reading.{child, only, group, no_more, statements, expression_body, expression, placed, set_body, simples, statement_body, loop_set, statement}
 use Rattle.rules.specs.Reading.{transition_body, rule_body, row_body, fields_body, agreement_body, read_tree}
 use Rattle.records.proofs.Parts.{has-length, part_length, whole-record}
 

@@ -1,5 +1,5 @@
 -- What reading answers, from a file that was accepted or not.
-use Rattle.std.specs.Prelude.{ℕ, length}
+use Rattle.std.specs.Prelude.{length}
 use Rattle.rules.specs.declared.Counted.{Counted}
 use Rattle.rules.specs.declared.Counted.TheVariants.{Steps, Refused}
 use Rattle.rules.specs.Expanding.{expansion}

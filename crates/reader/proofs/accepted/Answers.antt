@@ -1,15 +1,10 @@
 -- `reader::accepted` meets its contract.
-use mathlib.Core.Path.{◌≡◌, sym, ap, ◌∙◌}
-use Prim.Native.Nat.{ℕ}
+use mathlib.Core.Path.{sym, ap, ◌∙◌}
 use native.Mathlib.Omega.{arith}
-use borrow.Author.Rules.{rules}
 use mathlib.Core.List.{[]}
-use mathlib.Core.Option.{none, some}
 use Rattle.rules.specs.declared.Fields.{Fields}
 use Rattle.rules.specs.Basics.{given, sum}
 use Rattle.rules.specs.Accepting.{on_file, first_repeat, accept}
-use Rattle.access.specs.Places.{Laid}
-use Rattle.access.specs.Trees.{TreeRead}
 use Rattle.reader.proofs.Repeats.{repeat-small, repeat-some, repeat-none}
 use Rattle.reader.proofs.accepted.Goals as goal
 

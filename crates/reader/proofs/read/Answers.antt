@@ -1,13 +1,10 @@
 -- `reader::read` meets its contract.
-use mathlib.Core.Path.{◌≡◌, sym, ap, ◌∙◌}
-use Prim.Native.Nat.{ℕ}
+use mathlib.Core.Path.{sym, ◌∙◌}
 use native.Mathlib.Omega.{arith}
-use borrow.Author.Rules.{rules}
 use Rattle.rules.specs.Reading.{read_tree}
 use Rattle.rules.specs.Accepting.{on_file, accepted, file_of, read_file}
 use Rattle.records.proofs.Readers.{came, gone}
 use Rattle.files.specs.Trees.{tree_steps}
-use Rattle.access.specs.Trees.{TreeRead}
 use Rattle.reader.proofs.Places.{place-small}
 use Rattle.reader.proofs.read.Goals as goal
 

@@ -3,7 +3,6 @@ use Prim.Native.Nat.{ℕ, ◌*◌}
 use mathlib.Core.Path.{ap, ◌∙◌}
 use native.Mathlib.Omega.{arith}
 use lib.ListN.{take, length-replicate}
-use borrow.Author.Rules.{rules}
 use Rattle.rules.specs.Stepping.{begins_with}
 use Rattle.access.proofs.Using.{few-steps}
 use Rattle.expansion.proofs.Beginning.{steps-are, written-begins}
@@ -16,14 +15,12 @@ write_expansion-requires c =
 
 pub same_words-requires : goal.same_words-requires
 same_words-requires c =
-    let w = c in
-    let p = w.requires in
-    (p.1, omega (arith, p.0.1, few-steps p.0.0, w.write_expansion.auto.1.0, length-replicate {A = ℕ} 5120 0))
+    let p = c.requires in
+    (p.1, omega (arith, p.0.1, few-steps p.0.0, c.write_expansion.auto.words, length-replicate {A = ℕ} 5120 0))
 
 pub returns : goal.returns
 returns c =
     λ a.
-    let w = c in
-    let s = w in
-    let e = ap (take (5 * s.args.steps)) (w.write_expansion.ensures a) ∙ written-begins a.tree s.args.steps _ (steps-are s.requires.0 a) in
-    c.same_words.ensures ∙ ap (begins_with s.args.words.now) e
+    let n = c.args.steps in
+    let e = ap (take (5 * n)) (c.write_expansion.ensures a) ∙ written-begins a.tree n _ (steps-are c.requires.0 a) in
+    c.same_words.ensures ∙ ap (begins_with c.args.words.now) e

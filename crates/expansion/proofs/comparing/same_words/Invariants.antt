@@ -1,7 +1,6 @@
+-- Words from i on are left to compare.
 use Prim.Native.Nat.{◌-◌, ◌≤◌}
-use native.Mathlib.Omega.{arith}
-use borrow.Author.Rules.{rules}
-use Rattle.expansion.proofs.Beginning.{begins_from, from-none, from_all, from-other, from_next}
+use Rattle.expansion.proofs.Beginning.{begins_from}
 use Rattle.expansion.proofs.comparing.same_words.Given as goal
 
 abbrev pub invariant-loop-i : goal.invariant-loop-i
