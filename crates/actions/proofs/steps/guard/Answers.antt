@@ -11,7 +11,6 @@ returns-then-p-gt0 c = λ bs a s h. guarded-ends s h.limit _ (c.charge-p.ensures
 
 pub returns : goal.returns
 returns c = λ bs a s h.
-    let d = c in
-    let e = d.charge-p in
-    let g = flow-goes _ _ (e.ensures _ _ bs) (going-code e.result.code (omega (arith, d.if-p-gt0.false))) in
+    let e = c.charge-p in
+    let g = flow-goes _ _ (e.ensures _ _ bs) (going-code e.result.code (omega (arith, c.if-p-gt0.false))) in
     rw (guarded-demands s h.limit _ g _ _ (c.value.ensures a s h bs)) (c.guard.ensures _ _ bs)
