@@ -1,6 +1,6 @@
 -- A setting and the frame that stands for it.
 -- Assumes nothing.
-use Prim.Native.Nat.{ℕ, ◌<◌}
+use Prim.Native.Nat.{ℕ, ◌-◌, ◌<◌}
 use mathlib.Core.Path.{◌≡◌, refl, subst}
 use mathlib.Core.Bool.{true}
 use mathlib.Core.List.{List, [], ◌∷◌}
@@ -9,8 +9,9 @@ use Rattle.rules.specs.declared.Machine.{Machine}
 use Rattle.rules.specs.Syntax.{Expr, Simple, Stmt}
 use Rattle.rules.specs.Values.{View}
 use Rattle.rules.specs.Running.{Setting, view, perform, condition, guarded, statement}
-use Rattle.machine.specs.Flows.{Flow, Tested, flow_of, tested_of}
+use Rattle.machine.specs.Flows.{Flow, Tested, flow_of, tested_of, Funded}
 use Rattle.machine.proofs.Keeping.{Kept, Room, flow-keeps, test-keeps, perform-keeps, condition-keeps, guarded-keeps, statement-keeps}
+use Rattle.machine.proofs.Keeping.{kept_on, still-funded}
 use Rattle.forms.proofs.Units.{goes, Costs, condition-costs}
 use Rattle.actions.specs.declared.Frame.{Frame}
 use Rattle.actions.specs.Frames.{Framed}
@@ -85,3 +86,38 @@ module _ (frame : Frame) (arguments : List ℕ) (m : Machine) (room : Room frame
       let g = test-holds _ f (i one (framed frame arguments)) h in
       let k = subst (Costs one 1 goes m) g (condition-costs one e m) in
       (omega (arith, k.1), omega (arith, k.1))
+
+-- One turn of a loop that began with the machine o: its condition was tested on the machine m, then its body ran, and a for's closing set.
+module _ (frame : Frame) (arguments : List ℕ) {o m : Machine} (kept : Kept frame.limit o m) (has : Funded frame.accounts o)
+    (e : Expr) {t : Tested} (test : (c : Setting) → Framed c frame arguments → t ≡ tested_of (condition c e m)) where
+  room : Room frame.accounts m
+  room = (still-funded kept has).room
+
+  tested : Kept frame.limit o t.machine
+  tested = kept_on kept (test-kept frame arguments m room e test)
+
+  pub tested-funded : Funded frame.accounts t.machine
+  tested-funded = still-funded tested has
+
+  module _ (s : Stmt) {f : Flow} (body : (c : Setting) → Framed c frame arguments → f ≡ flow_of (statement c s t.machine)) where
+    ran : Kept frame.limit t.machine f.machine
+    ran = statement-kept frame arguments t.machine tested-funded.room s body
+
+    pub ran-kept : Kept frame.limit o f.machine
+    ran-kept = kept_on tested ran
+
+    pub ran-funded : Funded frame.accounts f.machine
+    ran-funded = still-funded ran-kept has
+
+    pub ran-less : t.holds ≡ true → frame.limit - f.machine.units < frame.limit - m.units
+    ran-less h = let k = test-costs frame arguments m room e test h in omega (arith, k.0, k.1, ran.units)
+
+    module _ (x : Simple) {g : Flow} (close : (c : Setting) → Framed c frame arguments → g ≡ flow_of (perform c x f.machine)) where
+      closed : Kept frame.limit f.machine g.machine
+      closed = perform_kept frame arguments f.machine ran-funded.room x close
+
+      pub closed-kept : Kept frame.limit o g.machine
+      closed-kept = kept_on ran-kept closed
+
+      pub closed-less : t.holds ≡ true → frame.limit - g.machine.units < frame.limit - m.units
+      closed-less h = omega (arith, ran-less h, closed.units)

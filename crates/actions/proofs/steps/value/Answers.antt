@@ -4,13 +4,9 @@ use borrow.Author.Rules.{rules}
 use Rattle.rules.specs.Values.{View, evaluate}
 use Rattle.machine.specs.Flows.{machine_of}
 use Rattle.actions.proofs.Frames.{seen-view}
-use Rattle.actions.proofs.steps.value.Statement.{statement}
-use Rattle.actions.proofs.steps.value.Tie as tie
+use Rattle.actions.proofs.steps.value.Goals as goal
 
-returns : tie.Need-returns
+pub returns : goal.returns
 returns c = λ a s h bs.
-    let i = c.before.before.before.args in
+    let i = c.args in
     c.evaluate.ensures a ∙ ap (λ (w : View). evaluate w a.tree) (seen-view h (machine_of i.variables.now i.locals.now bs i.n))
-
-pub value_spec : {M : Type 1} → statement M
-value_spec = tie.close (tie.spec (λ c κs. search rules) returns)

@@ -4,12 +4,8 @@ use borrow.Author.Rules.{rules}
 use borrow.Author.Tests.{le-leb}
 use Rattle.rules.specs.Basics.{most32}
 use Rattle.machine.specs.Codes.{value_of}
-use Rattle.actions.proofs.expressions.wide.Statement.{statement}
-use Rattle.actions.proofs.expressions.wide.Tie as tie
+use Rattle.actions.proofs.expressions.wide.Goals as goal
 
-returns : tie.Need-returns
+pub returns : goal.returns
 unfolding value_of most32
 returns c = let h : c.args.x ≤ 4_294_967_295 = search rules in rw (le-leb _ _ h)
-
-pub wide_spec : {M : Type 1} → statement M
-wide_spec = tie.close (tie.spec returns)
