@@ -1,5 +1,6 @@
 -- Laws of readers inside a record of n bytes s at `at`: fields and tests in a row, and what follows them.
 -- Assumes nothing.
+use Rattle.std.specs.Prelude.{if◌then◌else◌}
 use Prim.Native.Nat.{ℕ, zero, suc, ◌+◌, ◌-◌, ◌*◌, ◌≤◌, ◌<◌}
 use mathlib.Core.Path.{◌≡◌, refl, sym, ap, ap₂, subst, subst₂, subst₃, ◌∙◌}
 use mathlib.Core.Bool.{Bool, true, false}
@@ -8,7 +9,7 @@ use native.Mathlib.Omega.{arith}
 use lib.Dec.{eqb}
 use lib.ListN.{length, get_or, take, drop}
 use lib.Seq.{drop-cons}
-use Rattle.rules.specs.Basics.{if◌then◌else◌, part, number}
+use Rattle.rules.specs.Basics.{part, number}
 use Rattle.rules.specs.Reading.{Reading, refused, read, Reader, after, refuse, in_range, field, fields, zero_byte, size_of}
 use Rattle.records.proofs.Parts.{part_length, part-drop, part-number, from-drop}
 use Rattle.records.proofs.Readers.{Steady, unread}

@@ -1,5 +1,6 @@
 -- A file that was read: its parts and where they stand.
 -- Assumes nothing.
+use Rattle.std.specs.Prelude.{if◌then◌else◌}
 use Prim.Native.Nat.{ℕ, ◌+◌, ◌*◌, ◌≤◌}
 use mathlib.Core.Path.{◌≡◌, refl, sym, subst, subst₂}
 use mathlib.Core.Bool.{Bool, true, false, ◌&&◌}
@@ -9,7 +10,7 @@ use lib.Dec.{eqb, leb}
 use lib.ListN.{length, drop}
 use borrow.Author.Tests.{leb-true, eqb-true}
 use Rattle.rules.specs.declared.Fields.{Fields}
-use Rattle.rules.specs.Basics.{if◌then◌else◌, part}
+use Rattle.rules.specs.Basics.{part}
 use Rattle.rules.specs.Syntax.{Transition, Agreement}
 use Rattle.rules.specs.Reading.{Reading, refused, read, after, refuse, only, size_of, kind_of, child, no_more, is_empty, group, statement}
 use Rattle.rules.specs.Reading.{transition_body, row_body, rule_body, fields_body, agreement_body, read_tree}

@@ -1,6 +1,7 @@
 -- What other crates go by: the bounds of a tree that was read, the actions and conditions at their offsets, and what the
 -- functions' answers say of the tree.
 -- Assumes nothing.
+use Rattle.std.specs.Prelude.{if◌then◌else◌}
 use Prim.Native.Nat.{ℕ, zero, suc, ◌+◌, ◌≤◌, ◌<◌}
 use mathlib.Core.Path.{◌≡◌, refl, sym, ap, subst, ◌∙◌}
 use mathlib.Core.Bool.{Bool, true, false}
@@ -11,7 +12,7 @@ use lib.Dec.{ltb}
 use borrow.Author.Tests.{ltb-false}
 use lib.ListN.{length, get_or, get_elem?, drop, length-drop}
 use Rattle.rules.specs.declared.Call.{Call}
-use Rattle.rules.specs.Basics.{if◌then◌else◌, given, find, sum, most32}
+use Rattle.rules.specs.Basics.{given, find, sum, most32}
 use Rattle.rules.specs.Syntax.{Expr, Stmt, Transition, Rule, always, not_after, only_after, Agreement}
 use Rattle.rules.specs.Reading.{Reading, refused, read, expression, statement, read_tree}
 use Rattle.rules.specs.Expanding.{expansion}

@@ -1,5 +1,6 @@
 -- Laws of fields in a row: a reader of fields as a row of answers, then what was read.
 -- Assumes nothing.
+use Rattle.std.specs.Prelude.{if◌then◌else◌}
 use Prim.Native.Nat.{ℕ, zero, suc, ◌+◌, ◌≤◌, ◌<◌}
 use mathlib.Core.Path.{◌≡◌, refl, sym, ap, ap₂, subst, ◌∙◌}
 use mathlib.Core.Bool.{Bool, true, false, ◌&&◌}
@@ -9,7 +10,7 @@ use lib.Dec.{eqb, ltb, leb}
 use lib.ListN.{length, get_or, take, drop, length-drop}
 use lib.Seq.{drop-cons, drop-drop}
 use Rattle.rules.specs.declared.Fields.{Fields}
-use Rattle.rules.specs.Basics.{if◌then◌else◌, has, number, padded}
+use Rattle.rules.specs.Basics.{has, number, padded}
 use Rattle.rules.specs.Reading.{Reading, refused, read, after, pure, refuse, in_range, field, fields, zero_byte, fields_body}
 use Rattle.records.specs.Checking.{outcome, no_steps, Within}
 use Rattle.records.specs.declared.Checked.{Checked}

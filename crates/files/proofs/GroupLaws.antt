@@ -1,5 +1,6 @@
 -- Laws of a group: the whole from what is left of it, and its members read for their steps.
 -- Assumes nothing.
+use Rattle.std.specs.Prelude.{if◌then◌else◌}
 use Prim.Native.Nat.{ℕ, zero, suc, ◌+◌, ◌-◌, ◌≤◌, ◌<◌}
 use mathlib.Core.Path.{◌≡◌, refl, sym, ap, ap₂, ◌∙◌}
 use mathlib.Core.Bool.{Bool, true, false}
@@ -7,7 +8,7 @@ use mathlib.Core.List.{List, [], ◌∷◌, map}
 use native.Mathlib.Omega.{arith}
 use native.Mathlib.Numerals.{sub-one}
 use lib.ListN.{length, drop}
-use Rattle.rules.specs.Basics.{if◌then◌else◌, part, sum}
+use Rattle.rules.specs.Basics.{part, sum}
 use Rattle.rules.specs.Reading.{Reading, refused, read, Reader, after, ◌>>=◌, pure, refuse, closed, size_of, kind_of, whole, child, comes, group, no_more}
 use Rattle.records.specs.Checking.{outcome, no_steps, ended, added, from}
 use Rattle.records.specs.declared.Checked.{Checked}

@@ -1,5 +1,6 @@
 -- What the check makes of a transition's, a row's and a rule's body.
 -- Assumes nothing.
+use Rattle.std.specs.Prelude.{if◌then◌else◌}
 use Prim.Native.Nat.{ℕ, ◌+◌, ◌≤◌}
 use mathlib.Core.Path.{◌≡◌, refl, sym, ap, ◌∙◌}
 use mathlib.Core.Bool.{Bool, true, false, ◌&&◌}
@@ -9,7 +10,7 @@ use lib.Dec.{eqb, ltb, leb}
 use lib.ListN.{length, drop}
 use borrow.Author.Tests.{ne_eqb}
 use Rattle.rules.specs.declared.Call.{Call}
-use Rattle.rules.specs.Basics.{if◌then◌else◌, choose}
+use Rattle.rules.specs.Basics.{choose}
 use Rattle.rules.specs.Syntax.{Expr, Stmt, Transition, Rule, always, not_after, only_after}
 use Rattle.rules.specs.Reading.{Reading, read, Reader, after, ◌>>=◌, pure, field, fields, named, expression, statement, transition_body, rule_body, row_body}
 use Rattle.records.specs.Checking.{outcome, no_steps, counted, onward, Within}

@@ -1,5 +1,6 @@
 -- The names of the transitions that bytes begin with, and those of the transitions that a group read there.
 -- Assumes nothing.
+use Rattle.std.specs.Prelude.{if◌then◌else◌}
 use Prim.Native.Nat.{ℕ, zero, suc, ◌+◌, ◌-◌, ◌≤◌}
 use mathlib.Core.Path.{◌≡◌, refl, sym, ap, ap₂, ◌∙◌}
 use mathlib.Core.Bool.{Bool, true, false}
@@ -8,7 +9,7 @@ use native.Mathlib.Omega.{arith}
 use lib.Dec.{eqb}
 use lib.ListN.{length, drop}
 use borrow.Author.Tests.{eqb-true, eqb-false, eq-eqb, ne_eqb}
-use Rattle.rules.specs.Basics.{if◌then◌else◌, has, part}
+use Rattle.rules.specs.Basics.{has, part}
 use Rattle.rules.specs.Syntax.{Transition}
 use Rattle.rules.specs.Reading.{read, Reader, ◌>>=◌, pure, refuse, size_of, kind_of, whole, child, comes, group, transition_body}
 use Rattle.records.proofs.Parts.{both, has_all, part_length, part-number, Whole, whole-record}

@@ -1,6 +1,6 @@
 -- Fields in a row: what stands at a place, and one answer after another.
-use Rattle.std.specs.Prelude.{ℕ, ◌+◌, Bool, List, take, drop}
-use Rattle.rules.specs.Basics.{if◌then◌else◌, has, number}
+use Rattle.std.specs.Prelude.{ℕ, ◌+◌, Bool, List, take, drop, if◌then◌else◌}
+use Rattle.rules.specs.Basics.{has, number}
 use Rattle.records.specs.declared.Checked.{Checked}
 use Rattle.records.specs.declared.Checked.TheVariants.{Ok, Refused}
 

@@ -1,6 +1,6 @@
 -- The members of an agreement's groups: their parts, and how many steps they add.
-use Rattle.std.specs.Prelude.{ℕ, zero, suc, ◌+◌, Bool, ◌&&◌, List, [], ◌∷◌, eqb, ltb, leb, drop}
-use Rattle.rules.specs.Basics.{if◌then◌else◌, choose, has}
+use Rattle.std.specs.Prelude.{ℕ, zero, suc, ◌+◌, Bool, ◌&&◌, List, [], ◌∷◌, eqb, ltb, leb, drop, if◌then◌else◌}
+use Rattle.rules.specs.Basics.{choose, has}
 use Rattle.rules.specs.Syntax.{Transition}
 use Rattle.rules.specs.Reading.{Reader, ◌>>=◌, ◌>>◌, pure, refuse, in_range, field, zero_byte, size_of, kind_of, whole, child, named, transition_body, rule_body, row_body}
 use Rattle.records.specs.Counting.{step_count}

@@ -1,8 +1,8 @@
 -- A run as the code has it, on a machine whose arrays are lent and whose numbers are passed by value; and what operations ask of it.
-use Rattle.std.specs.Prelude.{ℕ, zero, suc, ◌+◌, ◌≤◌, ◌<◌, Bool, true, false, List, length, ◌⊎◌}
+use Rattle.std.specs.Prelude.{ℕ, zero, suc, ◌+◌, ◌≤◌, ◌<◌, Bool, true, false, List, length, ◌⊎◌, if◌then◌else◌}
 use Rattle.rules.specs.declared.Machine.{Machine}
 use Rattle.rules.specs.declared.Value.{Value}
-use Rattle.rules.specs.Basics.{if◌then◌else◌, sum, most32}
+use Rattle.rules.specs.Basics.{sum, most32}
 use Rattle.rules.specs.Values.{is_true}
 use Rattle.rules.specs.Running.{Run, going, returned, stopped, Action, Exec, after, pure, skip, stop}
 use Rattle.rules.specs.Running.{machine, or_stop, assign, pay, return_with}

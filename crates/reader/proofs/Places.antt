@@ -1,4 +1,5 @@
 -- The place of refusals 1 to 5 lies in the file, at its end at the latest, so it is at most 32,768 (place-small).
+use Rattle.std.specs.Prelude.{if◌then◌else◌}
 use mathlib.Core.Path.{◌≡◌, refl}
 use Prim.Native.Nat.{ℕ, zero, suc, ◌+◌, ◌≤◌}
 use native.Mathlib.Omega.{arith}
@@ -7,7 +8,7 @@ use mathlib.Core.List.{List, [], ◌∷◌}
 use lib.Dec.{eqb, leb}
 use lib.ListN.{length, take, drop, length-drop}
 use borrow.Author.Tests.{leb-true}
-use Rattle.rules.specs.Basics.{if◌then◌else◌, choose, has, part, number}
+use Rattle.rules.specs.Basics.{choose, has, part, number}
 use Rattle.rules.specs.Syntax.{Expr, Simple, Stmt, block, last, ◌then◌, Agreement}
 use Rattle.rules.specs.Reading.{Reading, refused, read, Reader, after, ◌>>=◌, ◌>>◌, pure, is_empty, at_end, comes, refuse, in_range, field, fields, zero_byte, closed, size_of, kind_of, whole}
 use Rattle.rules.specs.Reading.{child, only, group, no_more, statements, expression_body, expression, placed, set_body, simples, statement_body, loop_set, statement}

@@ -1,4 +1,5 @@
 -- What the first repeat says of the tree, and that the place of refusal 6 is at most 32,768 (repeat-small).
+use Rattle.std.specs.Prelude.{if◌then◌else◌}
 use mathlib.Core.Path.{◌≡◌, refl}
 use Prim.Native.Nat.{ℕ, ◌≤◌}
 use native.Mathlib.Omega.{arith}
@@ -6,7 +7,7 @@ use mathlib.Core.Bool.{Bool, true, false, ◌&&◌}
 use mathlib.Core.List.{List, [], ◌∷◌}
 use mathlib.Core.Option.{Option, none, some}
 use lib.Dec.{eqb}
-use Rattle.rules.specs.Basics.{if◌then◌else◌, any}
+use Rattle.rules.specs.Basics.{any}
 use Rattle.rules.specs.Syntax.{Transition}
 use Rattle.rules.specs.Accepting.{first_repeat}
 use Rattle.rules.specs.Demands.{All, more}

@@ -1,5 +1,6 @@
 -- Putting one text behind another, and the digits of a number.
 -- Assumes nothing.
+use Rattle.std.specs.Prelude.{if◌then◌else◌}
 use Prim.Native.Nat.{ℕ, zero, suc, ◌+◌, ◌-◌, ◌*◌, ◌/◌, ◌%◌, ◌^◌, ◌≤◌, ◌<◌}
 use mathlib.Core.Path.{◌≡◌, refl, sym, ap, ap₂, subst, ◌∙◌}
 use mathlib.Core.Bool.{Bool, true, false}
@@ -10,7 +11,7 @@ use lib.Dec.{ltb}
 use borrow.Author.Tests.{lt-ltb, le-ltb}
 use native.Mathlib.Nat.{mod-eq_of_lt, pow-suc, mul_comm}
 use native.Mathlib.Omega.{arith}
-use Rattle.rules.specs.Basics.{if◌then◌else◌, joined, each, padded}
+use Rattle.rules.specs.Basics.{joined, each, padded}
 use Rattle.rules.specs.Reporting.{digits, decimal, spaced}
 use Rattle.reporter.specs.declared.Page.{Page}
 use Rattle.reporter.specs.Texts.{Put, page}

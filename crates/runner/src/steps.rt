@@ -1,7 +1,6 @@
 // Starting and calling on the expanded form, once it is known that the lent words begin with the file's expansion and what is
 // looked up in its steps was found. For our own crates only: a caller has to see all of that, and can do it once for many calls.
-ghost use Rattle.std.specs.Prelude.{ℕ, List, ◌≡◌, eqb};
-ghost use Rattle.rules.specs.Basics.{if◌then◌else◌};
+ghost use Rattle.std.specs.Prelude.{ℕ, List, ◌≡◌, eqb, if◌then◌else◌};
 ghost use Rattle.rules.specs.Expanding.{expansion};
 ghost use Rattle.rules.specs.Calling.{entered as entered_of};
 ghost use Rattle.rules.specs.Stepping.{entry_of};

@@ -5,6 +5,7 @@
 --     goes, stops, done one turn of a loop over the parts, and its end
 --     all_held, ..      lists of which none breaks the rule, ruled on again under another bound
 -- Assumes nothing.
+use Rattle.std.specs.Prelude.{if◌then◌else◌}
 use Prim.Native.Nat.{ℕ, zero, suc, ◌+◌, ◌-◌, ◌<◌, ◌≤◌}
 use mathlib.Core.Path.{◌≡◌, refl, sym, ap, subst, fun_ext, ◌∙◌}
 use mathlib.Core.Logic.{inl, inr}
@@ -23,7 +24,7 @@ use Rattle.rules.specs.contracts.Verdict as Verdicts
 use Rattle.rules.specs.declared.Judged.{Judged}
 use Rattle.rules.specs.declared.Verdict.{Verdict}
 use Rattle.rules.specs.declared.Verdict.TheVariants.{Broken, Held}
-use Rattle.rules.specs.Basics.{if◌then◌else◌, each}
+use Rattle.rules.specs.Basics.{each}
 use Rattle.rules.specs.Lists.{lists_of, lists_to}
 use Rattle.rules.specs.Judging.{Ruling, broken, held, spent, First, at, nowhere, first, first_from, ruled_by, ruled_on, judged, judged_of}
 use Rattle.rules.proofs.Firsts.{one_later, first-cons}

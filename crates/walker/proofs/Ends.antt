@@ -1,5 +1,6 @@
 -- What a step does to a run, and how a run goes on after it.
 -- Assumes nothing.
+use Rattle.std.specs.Prelude.{if◌then◌else◌}
 use Prim.Native.Nat.{ℕ, zero, suc, ◌+◌, ◌-◌, ◌≤◌, ◌<◌}
 use mathlib.Core.Path.{◌≡◌, refl, sym, ap, subst, ◌∙◌}
 use mathlib.Core.Bool.{Bool, true, false, false≢true}
@@ -10,7 +11,7 @@ use lib.Dec.{eqb}
 use borrow.Author.Tests.{le-leb, lt-leb, ne_eqb, eqb-true, eqb-false}
 use Rattle.rules.specs.declared.Fields.{Fields}
 use Rattle.rules.specs.declared.Machine.{Machine}
-use Rattle.rules.specs.Basics.{if◌then◌else◌, choose}
+use Rattle.rules.specs.Basics.{choose}
 use Rattle.rules.specs.Syntax.{Expr, Simple}
 use Rattle.rules.specs.Expanding.{Step}
 use Rattle.rules.specs.Running.{Setting, Run, going, returned, stopped, perform, condition, guarded}

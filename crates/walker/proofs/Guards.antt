@@ -1,5 +1,6 @@
 -- What is found among the kind 1 steps, by their places.
 -- Assumes nothing.
+use Rattle.std.specs.Prelude.{if◌then◌else◌}
 use Prim.Native.Nat.{ℕ, zero, suc, ◌+◌, ◌≤◌, ◌<◌}
 use mathlib.Core.Path.{◌≡◌, refl, sym, ap, subst, ◌∙◌}
 use mathlib.Core.Bool.{Bool, true, false, ◌&&◌, ◌||◌}
@@ -11,7 +12,7 @@ use lib.Dec.{eqb}
 use lib.ListN.{length, get_or, take, drop, length-take, drop_of_length-le}
 use lib.Seq.{drop-cons, get_or-take}
 use borrow.Author.Tests.{eqb-true, eq-eqb, ne_eqb}
-use Rattle.rules.specs.Basics.{if◌then◌else◌, any, find}
+use Rattle.rules.specs.Basics.{any, find}
 use Rattle.rules.specs.Expanding.{Step, table}
 use Rattle.rules.specs.Stepping.{begins_with, entry_of, entry_known}
 use Rattle.rules.specs.Demands.{All}

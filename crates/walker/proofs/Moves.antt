@@ -1,12 +1,12 @@
 -- What the code's steps and runs are, from what their parts are.
 -- Assumes nothing.
+use Rattle.std.specs.Prelude.{if◌then◌else◌}
 use Prim.Native.Nat.{ℕ, ◌+◌, ◌≤◌}
 use mathlib.Core.Path.{◌≡◌, sym, ap, ◌∙◌}
 use mathlib.Core.Bool.{Bool, true, false}
 use mathlib.Core.List.{List}
 use native.Mathlib.Omega.{arith}
 use Rattle.rules.specs.declared.Machine.{Machine}
-use Rattle.rules.specs.Basics.{if◌then◌else◌}
 use Rattle.rules.specs.Expanding.{expansion}
 use Rattle.rules.specs.Running.{Setting, perform, condition, guarded}
 use Rattle.rules.specs.Calling.{halted, leads}
