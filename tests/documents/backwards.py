@@ -39,6 +39,18 @@ def listed(project: Project, document: str, text: str) -> Iterator[Check]:
         yield Check(document, name, f"a folder that {document} lists", name in cited)
 
 
+def clauses(head: str) -> str:
+    """A function's head without its layout, and without what says that it is exported."""
+    return "".join(head.replace('extern "C" ', "").split()).replace(",)", ")")
+
+
+def restated(exports: dict[str, str], called: dict[str, str]) -> Iterator[Check]:
+    """Every exported function has the clauses of the function of its name that it hands on to."""
+    for name, head in exports.items():
+        found = clauses(called.get(name, "")) == clauses(head)
+        yield Check("crates/*_c/src/lib.rt", name, "exported with the clauses of the function that it calls", found)
+
+
 def numbered(decisions: str) -> Iterator[Check]:
     """The points of DECISIONS.md are numbered one after the other."""
     for place, number in enumerate(POINT.findall(decisions), 1):
@@ -57,6 +69,10 @@ def backwards(project: Project) -> Iterator[Check]:
     yield from promised(project, project.text("docs/PROMISES.md"))
     yield from traced(project, project.text("docs/TRACE.md"))
     yield from numbered(project.text("docs/DECISIONS.md"))
+    for crate in project.exporting():
+        below = crate.removesuffix("_c")
+        exports = project.functions(f"crates/{crate}/src/lib.rt")
+        yield from restated(exports, project.functions(f"crates/{below}/src/interface.rt"))
     for document in ("README.md", "tests/README.md"):
         yield from listed(project, document, project.text(document))
     for document in OTHER:

@@ -111,10 +111,12 @@ def contracted(project: Project, cell: str) -> Iterator[tuple[str, str, bool]]:
 
 
 def proved(project: Project, cell: str) -> Iterator[tuple[str, str, bool]]:
-    """Paths below crates/, and after a file its theorems."""
+    """Paths below crates/, and after a file its theorems; and functions whose proofs Rattle finds."""
     file = ""
     for name in coded(cell):
-        if "/" in name:
+        if "::" in name:
+            yield name, "a function with a contract and no file of proofs", names.unwritten(project, name)
+        elif "/" in name:
             file = f"crates/{name}"
             yield name, "a file of proofs, or a folder with a proof", names.proof(project, file)
         else:
@@ -204,7 +206,8 @@ def looked_for(project: Project, word: str, folder: str) -> tuple[str, bool] | N
 def points(project: Project, document: str, text: str) -> Iterator[Check]:
     """The points of DECISIONS.md that a document refers to by number are there."""
     there = set(POINT.findall(project.text("docs/DECISIONS.md")))
-    for pair in POINTED.findall(text):
+    pairs: list[tuple[str, str]] = POINTED.findall(text)
+    for pair in pairs:
         for number in filter(None, pair):
             yield Check(document, f"point {number}", "a point of docs/DECISIONS.md", number in there)
 

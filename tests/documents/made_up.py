@@ -2,7 +2,7 @@
 
 from collections.abc import Iterator
 
-from backwards import listed, numbered, promised, proved, traced, used
+from backwards import listed, numbered, promised, proved, restated, traced, used
 from documents import Check, checks
 from project import Project
 
@@ -31,6 +31,11 @@ MADE_UP: list[tuple[str, str, str]] = [
     (TRACE, row(contract="`nothing::read`"), "nothing::read"),
     (TRACE, row(proof="`reader/proofs/nothing`"), "reader/proofs/nothing"),
     (TRACE, row(proof="`reader/src`"), "reader/src"),
+    (TRACE, row(proof="`access/specs`"), "access/specs"),
+    (TRACE, row(proof="`access/specs/Answers.antt`"), "access/specs/Answers.antt"),
+    (TRACE, row(proof="`reader::nothing`"), "reader::nothing"),
+    (TRACE, row(proof="`reader::read`"), "reader::read"),
+    (TRACE, row(proof="`records::statements::check_block`"), "records::statements::check_block"),
     (TRACE, row(proof="`rules/proofs/Cases.antt` `nothing`"), "crates/rules/proofs/Cases.antt nothing"),
     (TRACE, row(test="Cases `Counter.nothing`"), "Counter.nothing"),
     (TRACE, row(test="Cases `Calling.call`"), "Calling.call"),
@@ -41,7 +46,7 @@ MADE_UP: list[tuple[str, str, str]] = [
     (TRACE, row(test="nothing"), "nothing"),
     (TRACE, "| a | b |", "| a | b |"),
     (TRACE, "DECISIONS.md, points 1 and 1000", "point 1000"),
-    (PROMISES, "`Flows.machineOf`", "Flows.machineOf"),
+    (PROMISES, "`Flows.machine_of`", "Flows.machine_of"),
     (PROMISES, "`Nothing`", "Nothing"),
     (PROMISES, "`crates/nothing`", "crates/nothing"),
     (PROMISES, "`access::fields::fields`", "access::fields::fields"),
@@ -75,6 +80,7 @@ def found_missing(project: Project) -> Iterator[Check]:
         ("an edit that is not traced", traced(project, "")),
         ("a crate that is not listed", listed(project, README, "")),
         ("a test that is not listed", listed(project, "tests/README.md", "")),
+        ("an export with another clause", restated({"f": "fn f()\n    ensures { a }\n{"}, {"f": "fn f()\n{"})),
         ("a number twice", numbered("1. one\n1. two\n")),
         ("a word that is not used", used(DECISIONS, "")),
     ]:

@@ -9,6 +9,8 @@ QUALIFIED = re.compile(r"([A-Z]\w*)\.(\w+)")
 FUNCTION = re.compile(r"[a-z]\w*(?:::\w+)+")
 EDIT = re.compile(r"[a-z]+/[a-z0-9_]+")
 SUFFIX = re.compile(r".+\.(?:md|antt|rt|edit|py|rs|c|h|txt|toml|pml)")
+# What is written of a function's proof, in the function's folder: its answers, its invariants, or all of it.
+WRITTEN = re.compile(r"crates/\w+/proofs/.+/(?:Answers|Invariants|Proof)\.antt")
 
 
 def definition(project: Project, name: str, crates: list[str]) -> bool:
@@ -28,11 +30,17 @@ def statement(project: Project, name: str) -> bool:
     return any(name in project.declared(p) for p in project.under("crates/rules/specs", ".antt"))
 
 
+def sources(name: str) -> list[str]:
+    """Where crate::module::function may stand."""
+    crate, *modules, _ = name.split("::")
+    inside = ["/".join(modules)] if modules else ["lib", "main"]
+    return [f"crates/{crate}/src/{module}.rt" for module in inside]
+
+
 def head(project: Project, name: str) -> str:
     """What stands before the body of crate::module::function; nothing if there is no such function."""
-    crate, *modules, last = name.split("::")
-    inside = ["/".join(modules)] if modules else ["lib", "main"]
-    return "".join(project.functions(f"crates/{crate}/src/{module}.rt").get(last, "") for module in inside)
+    last = name.split("::")[-1]
+    return "".join(project.functions(source).get(last, "") for source in sources(name))
 
 
 def contract(project: Project, name: str) -> bool:
@@ -55,8 +63,21 @@ def theorem(project: Project, name: str, file: str) -> bool:
 
 
 def proof(project: Project, path: str) -> bool:
-    """A file of proofs, or a folder with the proof of a function."""
-    return path in project.files or any(p.endswith("/Proof.antt") for p in project.under(path, ".antt"))
+    """A file of proofs, or a folder with what is written of a function's proof."""
+    a_file = path in project.files and re.match(r"crates/\w+/proofs/", path) is not None
+    return a_file or any(WRITTEN.fullmatch(p) for p in project.under(path, ".antt"))
+
+
+def proof_folder(project: Project, name: str) -> str:
+    """The folder for the proof of crate::module::function, which a cycle of calls shares."""
+    crate, *modules, last = name.split("::")
+    cycles = {function: f"+{cycle}" for source in sources(name) for function, cycle in project.cycles(source).items()}
+    return "/".join(["crates", crate, "proofs", *modules, cycles.get(last, last)])
+
+
+def unwritten(project: Project, name: str) -> bool:
+    """A function with a contract whose proof Rattle finds: nothing of it is written."""
+    return contract(project, name) and not proof(project, proof_folder(project, name))
 
 
 def path(project: Project, name: str, folder: str = "") -> bool:

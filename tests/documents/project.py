@@ -7,13 +7,14 @@ from functools import cache
 from pathlib import Path
 
 # Folders that hold what a build or a test run has left.
-LEFT = {".git", "target", "found", "__pycache__"}
+LEFT = {".git", "target", "out", "found", "__pycache__"}
 
 DECLARED = re.compile(r"\s*(?:(?:unfoldable|abbrev)\s+)?pub\s+(?:(?:data|record)\s+)?([^\s:({]+)")
 RECORD = re.compile(r"\s*pub\s+record\b")
 CLOSED = re.compile(r"^abbrev pub (\w+) : Type 0$", re.MULTILINE)
 PROVED = re.compile(r"^\s*pub ([\w-]+) : (\w+)$", re.MULTILINE)
 FUNCTION = re.compile(r'\s*(?:pub\s+)?(?:extern "C"\s+)?fn\s+(\w+)')
+CYCLE = re.compile(r"#\[cycle\((\w+)\)\]\s*(?:pub\s+)?fn\s+(\w+)")
 TYPE = re.compile(r"^\s*(?:pub\s+)?(?:struct|enum)\s+(\w+)", re.MULTILINE)
 TEST = re.compile(r"#\[test\]\s*fn\s+(\w+)")
 
@@ -36,7 +37,8 @@ def declared(text: str) -> set[str]:
 
 
 def functions(text: str) -> dict[str, str]:
-    """The functions of a source file, each with its head: what stands before its body, contract included."""
+    """The functions of a source file, each with its head: what stands before its body, contract included. The brace of a body
+    ends its line, and the braces of the clauses are closed before it."""
     heads: dict[str, str] = {}
     name = ""
     for line in text.splitlines():
@@ -45,7 +47,8 @@ def functions(text: str) -> dict[str, str]:
             heads[name] = ""
         if name:
             heads[name] += line + "\n"
-            name = "" if line.lstrip().startswith("{") or line.endswith("{") else name
+            opened = heads[name].count("{") - heads[name].count("}")
+            name = "" if line.endswith("{") and opened == 1 else name
     return heads
 
 
@@ -75,6 +78,11 @@ class Project:
     def functions(self, path: str) -> dict[str, str]:
         return functions(self.text(path))
 
+    @cache
+    def cycles(self, path: str) -> dict[str, str]:
+        """The functions of a source file that call each other, each with the name of their cycle."""
+        return {function: name for name, function in CYCLE.findall(self.text(path))}
+
     def documents(self) -> list[str]:
         return [p for p in self.files if p.endswith(".md")]
 
@@ -84,6 +92,10 @@ class Project:
     def of_crates(self, part: str, suffix: str) -> list[str]:
         """The files of one part (specs, proofs or src) of every crate."""
         return [p for crate in self.crates for p in self.under(f"crates/{crate}/{part}", suffix)]
+
+    def exporting(self) -> list[str]:
+        """The crates that export the functions of another crate to C."""
+        return [crate for crate in self.crates if crate.endswith("_c")]
 
     @cache
     def types(self, crate: str) -> set[str]:

@@ -17,7 +17,7 @@ OTHER: dict[str, dict[str, str]] = {
         "crates/CRATE/must-fail/NAME.edit": FORM,
         "ensures": KIT,
         "librunner.a": BUILT,
-        "inRule": "a parameter of `Reading.expressionBody`",
+        "in_rule": "a parameter of `Reading.expression_body`",
     },
     "docs/PROMISES.md": {
         "File.name": FORM,
