@@ -7,7 +7,7 @@ from words import MADE
 
 QUALIFIED = re.compile(r"([A-Z]\w*)\.(\w+)")
 FUNCTION = re.compile(r"[a-z]\w*(?:::\w+)+")
-EDIT = re.compile(r"[a-z]+/[a-z0-9_]+")
+EDIT = re.compile(r"[a-z_]+/[a-z0-9_]+")
 SUFFIX = re.compile(r".+\.(?:md|antt|rt|edit|py|rs|c|h|txt|toml|pml)")
 # What is written of a function's proof, in the function's folder: its answers, its invariants, or all of it.
 WRITTEN = re.compile(r"crates/\w+/proofs/.+/(?:Answers|Invariants|Proof)\.antt")
