@@ -1,5 +1,5 @@
 -- The measures: the number of bytes; `operand` calls `coded` on the same bytes.
-use Prim.Native.Nat.{ℕ, ◌+◌, ◌*◌}
+use Prim.Native.Nat.{◌+◌, ◌*◌}
 use lib.ListN.{length}
 use Rattle.actions.proofs.expressions.+operand.Given as goal
 

@@ -1,6 +1,5 @@
 -- `evaluate` meets its contract: the number stands for its value.
 use mathlib.Core.Path.{◌∙◌}
-use borrow.Author.Rules.{rules}
 use Rattle.actions.proofs.expressions.evaluate.Goals as goal
 
 pub returns : goal.returns

@@ -478,7 +478,7 @@ run_while-loop-condition-preserved t c =
     let i = c.args in
     let p = laws.while-tree (long_is _ c.u16_at-end.ensures.0) c.requires.0 c.requires.1 _ c.u16_at.ensures.0 in (
       ran-kept i.frame i.arguments.now l.invariant.0 c.requires.2 p.test.tree (c.test-t.ensures l.balances p.test)
-      p.body.tree (c.run_statement-turn.ensures p.body),
+          p.body.tree (c.run_statement-turn.ensures p.body),
       λ a b d h.
           let o = going-code c.run_statement-turn.result.code (omega (arith, c.if-turn-gt0.false)) in
           l.invariant.1 a b d h
@@ -523,7 +523,7 @@ run_turns-perform-closed-requires t c =
     let a = c.requires.0 in
     let b = c.requires.2 in
     let f = ran-funded i.frame i.arguments.now l.invariant.0 c.requires.3 a.tree (c.test-t.ensures l.balances a)
-        b.tree (c.run_statement-ran.ensures b) in
+    b.tree (c.run_statement-ran.ensures b) in
     (c.requires.1, f)
 
 pub run_turns-returns-then-closed-gt0 : goal.run_turns-returns-then-closed-gt0
@@ -553,7 +553,7 @@ run_turns-loop-frame-preserved t c =
     let y = c.requires.1 in
     let z = c.requires.2 in (
       closed-kept i.frame i.arguments.now l.invariant.0 c.requires.3 x.tree (c.test-t.ensures l.balances x)
-      z.tree (c.run_statement-ran.ensures z) y.tree (c.perform-closed.ensures y),
+          z.tree (c.run_statement-ran.ensures z) y.tree (c.perform-closed.ensures y),
       λ a k b d h.
           let o = going-code c.run_statement-ran.result.code (omega (arith, c.if-ran-gt0.false)) in
           let e = both_go d b.tree _ (c.run_statement-ran.ensures b d h) o k.tree (c.perform-closed.ensures k d h) in

@@ -1,5 +1,5 @@
 -- The measures: the number of bytes, and of a loop the bytes that are left or the units that are left.
-use Prim.Native.Nat.{ℕ, ◌+◌, ◌-◌, ◌*◌}
+use Prim.Native.Nat.{◌+◌, ◌-◌, ◌*◌}
 use mathlib.Core.Path.{◌≡◌}
 use lib.ListN.{length}
 use Rattle.rules.specs.Running.{Setting, ◌>>◌, perform, condition, repeat, statement, statements}

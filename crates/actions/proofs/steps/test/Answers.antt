@@ -1,5 +1,4 @@
 -- `test` meets its contract: the charge is refused, or it goes through and the condition has a value.
-use borrow.Author.Rules.{rules}
 use native.Mathlib.Omega.{arith}
 use Rattle.machine.proofs.Codes.{going-code, ended-code}
 use Rattle.machine.proofs.Flows.{flow-goes}

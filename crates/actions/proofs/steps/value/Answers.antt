@@ -1,6 +1,5 @@
 -- `value` meets its contract: what it lends is what the setting shows on the machine, whatever the balances are.
 use mathlib.Core.Path.{◌∙◌, ap}
-use borrow.Author.Rules.{rules}
 use Rattle.rules.specs.Values.{View, evaluate}
 use Rattle.machine.specs.Flows.{machine_of}
 use Rattle.actions.proofs.Frames.{seen-view}
