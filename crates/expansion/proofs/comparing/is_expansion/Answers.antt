@@ -16,7 +16,7 @@ write_expansion-requires c =
 pub same_words-requires : goal.same_words-requires
 same_words-requires c =
     let p = c.requires in
-    (p.1, omega (arith, p.0.1, few-steps p.0.0, c.write_expansion.auto.words, length-replicate {A = ℕ} 5120 0))
+    (omega (arith, p.1), omega (arith, p.0.1, few-steps p.0.0, c.write_expansion.auto.words, length-replicate {A = ℕ} 5120 0))
 
 pub returns : goal.returns
 returns c =
