@@ -1,3 +1,4 @@
+-- The functions of a statement meet their contracts: what each kind's record says of a tree that is read, then each goal.
 use Prim.Native.Nat.{ℕ, ◌+◌, ◌*◌, ◌≤◌, ◌<◌}
 use mathlib.Core.Path.{◌≡◌, refl, sym, ap, ◌∙◌}
 use mathlib.Core.List.{List}
