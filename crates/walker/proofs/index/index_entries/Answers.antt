@@ -1,6 +1,6 @@
 -- The first of the places are those of the kind 1 steps before the i-th.
 use Prim.Native.Nat.{ℕ, ◌+◌, ◌-◌, ◌≤◌}
-use mathlib.Core.Path.{◌≡◌, sym, subst₂, ◌∙◌}
+use mathlib.Core.Path.{◌≡◌, sym, ap, ◌∙◌}
 use mathlib.Core.List.{List}
 use mathlib.Core.Logic.{⊎_elim}
 use native.Mathlib.Omega.{arith}
@@ -12,6 +12,7 @@ use Rattle.walker.proofs.Bounds.{few, within}
 use Rattle.walker.proofs.Tables.{Here}
 use Rattle.walker.proofs.Indexes.{EnteredTo, entries_none, entries-here, entries-other, entries-all}
 use Rattle.walker.proofs.index.index_entries.Goals as goal
+use Rattle.walker.proofs.index.index_entries.Goals.{then-word-eq1, else-word-eq1}
 
 pub loop-i-init : goal.loop-i-init
 loop-i-init c = (omega arith, omega arith, length-replicate {A = ℕ} 1024 0, λ file a e. entries_none (expansion a.tree) (replicate 1024 0))
@@ -31,40 +32,29 @@ bounds-places-count c = omega (arith, few c.requires)
 pub overflow_add-count : goal.overflow_add-count
 overflow_add-count c = omega (arith, few c.requires)
 
--- what holds of the places after the i-th step
-abbrev Next : (words : List ℕ) (steps i : ℕ) (places : List ℕ) (count : ℕ) → Type 0
-Next words steps i places count =
-    (count ≤ i + 1)
-    × (length places ≡ 1024)
-    × ((file : List ℕ) (a : Expanded file words) → steps ≡ length (expansion a.tree) → EnteredTo (i + 1) (expansion a.tree) places count)
-
 pub loop-i-preserved : goal.loop-i-preserved
 loop-i-preserved c =
-    let l = c in
-    let s = l in
-    let i = l.loop-i.i in
-    let p : List ℕ = l.loop-i.places in
-    let n = l.loop-i.count in
-    let h = l.loop-i.invariant in
-    let low = few s.requires in
+    let i = c.loop-i.i in
+    let p : List ℕ = c.loop-i.places in
+    let n = c.loop-i.count in
+    let h = c.loop-i.invariant in
+    let low = few c.requires in
     let kind = c.word.ensures in
-    let here : (file : List ℕ) (a : Expanded file s.args.words.now) → s.args.steps ≡ length (expansion a.tree) → Here s.args.words.now (expansion a.tree) i =
-    λ file a e. (within (record { file = file; expanded = a; counts = e }) i (omega arith)).step in
-    let r : Next s.args.words.now s.args.steps i c.if-word-eq1.places c.if-word-eq1.count =
-    ⊎_elim
-    (λ t. subst₂ (Next s.args.words.now s.args.steps i) (sym t.1) (sym t.2)
-    (omega arith, length-set p n i ∙ h.2, λ file a e. entries-here (here file a e) p n (h.3 file a e) (sym kind ∙ t.0.taken) (omega arith)))
-    (λ t. subst₂ (Next s.args.words.now s.args.steps i) (sym t.1) (sym t.2)
-    (omega arith, h.2, λ file a e. entries-other (here file a e) p n (h.3 file a e) (λ z. t.0.left (kind ∙ z))))
-    c.if-word-eq1.branch in
-    (omega arith, r.0, r.1, r.2)
+    let words = c.args.words.now in
+    let here : (file : List ℕ) (a : Expanded file words) → c.args.steps ≡ length (expansion a.tree) → Here words (expansion a.tree) i
+    = λ file a e. (within (record { file = file; expanded = a; counts = e }) i (omega arith)).step in
+    elim c.if-word-eq1.branch [
+      | then-word-eq1 w ↦
+          (omega arith, omega (arith, w.count-is), ap length w.places-is ∙ length-set p n i ∙ h.2, λ file a e.
+          rw (w.places-is, w.count-is) (entries-here (here file a e) p n (h.3 file a e) (sym kind ∙ w.if-word-eq1.true) (omega arith)))
+      | else-word-eq1 w ↦
+          (omega arith, omega (arith, w.count-is), ap length w.places-is ∙ h.2, λ file a e.
+          rw (w.places-is, w.count-is) (entries-other (here file a e) p n (h.3 file a e) (λ z. w.if-word-eq1.false (kind ∙ z))))
+    ]
 
 pub returns : goal.returns
-returns c = λ file a e.
-    let l = c in
-    let s = l in
-    record {
-      full = l.loop-i.invariant.2;
-      are = entries-all (expansion a.tree) l.loop-i.places l.loop-i.count l.loop-i.i (omega arith) (l.loop-i.invariant.3 file a e);
-      few = omega (arith, few s.requires);
-    }
+returns c = λ file a e. record {
+  full = c.loop-i.invariant.2;
+  are = entries-all (expansion a.tree) c.loop-i.places c.loop-i.count c.loop-i.i (omega arith) (c.loop-i.invariant.3 file a e);
+  few = omega (arith, few c.requires);
+}

@@ -11,9 +11,6 @@ use Rattle.rules.specs.Expanding.{expansion}
 use Rattle.rules.specs.Stepping.{entry_known, entry_of}
 use Rattle.walker.specs.Tables.{Expanded, guard_places, Entered}
 use Rattle.walker.proofs.Guards.{Left, Place, left-all, place, found_here, found-other, found_none, found-end}
-use Rattle.walker.proofs.lookup.find_entry.Lts as lts
-use Rattle.walker.proofs.lookup.find_entry.Tie as tie
-use Rattle.walker.proofs.lookup.find_entry.Reads as own
 use Rattle.walker.proofs.lookup.find_entry.Given as goal
 
 abbrev pub invariant-loop-i : goal.invariant-loop-i
