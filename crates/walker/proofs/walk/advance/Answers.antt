@@ -11,6 +11,7 @@ use Rattle.walker.specs.Runs.{Ready}
 use Rattle.walker.proofs.Meeting.{first_of, SimpleFrom, SimpleAt, here, not_three, simple-met}
 use Rattle.walker.proofs.Moves.{decides, performs, refuses}
 use Rattle.walker.proofs.walk.advance.Goals as goal
+use Rattle.walker.proofs.walk.advance.Goals.{in_default-via-then-kind-lt4, in_default-via-else-kind-lt4+else-kind-lt8}
 
 -- the statement that is met
 met : {file words : List ℕ} {i : ℕ} → Ready file words i → 4 ≤ word_at words i 2 → (a : Expanded file words) → SimpleAt file a.tree.fields.variables (word_at words i 4)
@@ -32,20 +33,33 @@ word-requires c = let r = c.requires.0 in omega (arith, (here r.expanded _ r.nod
 pub word-to-requires : goal.word-to-requires
 word-to-requires c = let r = c.requires.0 in omega (arith, (here r.expanded _ r.node r.first).room)
 
-pub slice_bounds-perform-count : goal.slice_bounds-perform-count
-slice_bounds-perform-count c = ?
-
 pub slice_bounds-perform-start : goal.slice_bounds-perform-start
-slice_bounds-perform-start c = ?
+slice_bounds-perform-start c = (bytes (c.wide-at.ensures ∙ c.word.ensures) (met c.requires.0 (omega (arith, c.word-kind.ensures)) c.requires.0.expanded)).within
+
+pub slice_bounds-perform-count : goal.slice_bounds-perform-count
+slice_bounds-perform-count c = (bytes (c.wide-at.ensures ∙ c.word.ensures) (met c.requires.0 (omega (arith, c.word-kind.ensures)) c.requires.0.expanded)).within
 
 pub perform-requires : goal.perform-requires
-perform-requires c = ?
+perform-requires c =
+    ((bytes (c.wide-at.ensures ∙ c.word.ensures) (met c.requires.0 (omega (arith, c.word-kind.ensures)) c.requires.0.expanded)).bytes, c.requires.1)
 
 pub returns-in-2 : goal.returns-in-2
 returns-in-2 c = λ a d h. decides a c.args.i d _ (sym c.word-kind.ensures ∙ c.in-2.is) (c.decide.ensures _ a d h)
 
 pub returns-in-4 : goal.returns-in-4
-returns-in-4 c = ?
+returns-in-4 c = λ a d h.
+    let m = machine_of c.args.variables.now c.args.locals.now c.args.balances.now c.args.n in
+    let low : 4 ≤ word_at c.args.words.now c.args.i 2 = omega (arith, c.word-kind.ensures) in
+    let s = met c.requires.0 low a in
+    let b = bytes (c.wide-at.ensures ∙ c.word.ensures) s in
+    performs a c.args.i d m _ s (c.perform.ensures b.bytes d h ∙ ap (λ (x : Simple). flow_of (perform d x m)) b.is)
+    (c.led.ensures _ _ _) low (omega (arith, c.word-kind.ensures)) c.word-to.ensures
 
 pub returns-in_default : goal.returns-in_default
-returns-in_default c = ?
+returns-in_default c = λ a d h.
+    let r = c.requires.0 in
+    refuses a c.args.i d _ (c.halted.ensures _ _ _) (λ z. omega (arith, c.word-kind.ensures, z)) (not_three a c.args.i r.node (first_of r a))
+    (λ l u. elim c.in_default.branch [
+      | in_default-via-then-kind-lt4 w ↦ omega (arith, c.word-kind.ensures, l)
+      | in_default-via-else-kind-lt4+else-kind-lt8 w ↦ omega (arith, c.word-kind.ensures, u)
+    ])
