@@ -1,121 +1,89 @@
 -- `enter` meets its contract: the guard refuses, or the run goes on from where its step leads.
-use Prim.Native.Nat.{◌+◌, ◌*◌, ◌≤◌}
+use Prim.Native.Nat.{ℕ, ◌+◌, ◌*◌, ◌≤◌}
 use mathlib.Core.Path.{◌≡◌, sym, ap, subst, ◌∙◌}
+use mathlib.Core.List.{List}
 use mathlib.Core.Option.{some}
 use native.Mathlib.Omega.{arith}
 use lib.ListN.{length}
-use borrow.Author.Rules.{rules}
 use Rattle.rules.specs.declared.Machine.{Machine}
 use Rattle.rules.specs.Syntax.{Expr}
 use Rattle.rules.specs.Expanding.{Step, expansion}
 use Rattle.rules.specs.Running.{Setting, guarded}
 use Rattle.rules.specs.Stepping.{records_in}
-use Rattle.machine.specs.Flows.{machine_of, flow_in, flow_of, Funded}
+use Rattle.machine.specs.Flows.{Flow, machine_of, flow_of, Funded}
 use Rattle.machine.proofs.Codes.{going-code, ended-code}
 use Rattle.machine.proofs.Keeping.{still-funded}
-use Rattle.actions.specs.Frames.{Framed}
 use Rattle.actions.proofs.Frames.{guard-kept}
 use Rattle.walker.specs.Tables.{Expanded, word_at, step_at}
-use Rattle.walker.specs.Runs.{Reached, reached_in, reached_of, admitted_in, walk_by_in}
+use Rattle.walker.specs.Runs.{Reached, reached_of, toward, admitted_in, walk_by_in, Enterable}
 use Rattle.walker.proofs.Tables.{at_here}
 use Rattle.walker.proofs.Ends.{toward-machine, by-stops, by-goes}
 use Rattle.walker.proofs.Meeting.{entry_of, ExprFrom, ExprAt, at_place, guard-there}
 use Rattle.walker.proofs.Moves.{admits}
-use Rattle.walker.proofs.walk.enter.Lts as lts
-use Rattle.walker.proofs.walk.enter.Tie as tie
-use Rattle.walker.proofs.walk.enter.Reads as own
 use Rattle.walker.proofs.walk.enter.Goals as goal
 
-abbrev machine : lts.Start tie.the-claims own.Pre own.Post → Machine
-machine s = machine_of s.args.variables.now s.args.locals.now s.args.balances.now s.args.n
+module _ {file words nodes : List ℕ} {states place : ℕ} (e : Enterable file words nodes states place) where
+  room : 5 * place + 5 ≤ length words
+  room = (at_place e.walkable.expanded place e.entry.here).room
 
--- the guard
-met :
-    (s : lts.Start tie.the-claims own.Pre own.Post) (a : Expanded s.args.file.now s.args.words.now) →
-    ExprAt s.args.file.now a.tree.fields.variables (word_at s.args.words.now s.args.place 4)
-met s a = guard-there a s.args.place (entry_of s.requires.0 a)
+  -- the guard
+  met : (a : Expanded file words) → ExprAt file a.tree.fields.variables (word_at words place 4)
+  met a = guard-there a place (entry_of e a)
 
--- its bytes, from the offset that was read
-bytes :
-    (c : goal.After-wide-at) →
-    let s = c.before.before.before.before in
-    (a : Expanded s.args.file.now s.args.words.now) → ExprFrom s.args.file.now (met s a).tree c.wide-at.result
-bytes c a =
-    let s = c.before.before.before.before in
-    subst (ExprFrom s.args.file.now (met s a).tree) (sym (c.wide-at.ensures ∙ c.word.ensures)) (met s a).stands
-
-room : (s : lts.Start tie.the-claims own.Pre own.Post) → 5 * s.args.place + 5 ≤ length s.args.words.now
-room s = let e = s.requires.0 in (at_place e.walkable.expanded s.args.place e.entry.here).room
-
-abbrev start : lts.After-led tie.the-claims own.Pre own.Post → lts.Start tie.the-claims own.Pre own.Post
-start l = l.before.before.before.before.before.before.before.before.before.before
+  -- its bytes, from the offset that was read
+  bytes : {at : ℕ} → at ≡ word_at words place 4 → (a : Expanded file words) → ExprFrom file (met a).tree at
+  bytes is a = subst (ExprFrom file (met a).tree) (sym is) (met a).stands
 
 -- past the guard
 guards :
-    (l : lts.After-led tie.the-claims own.Pre own.Post) →
-    let s = start l in
-    (a : Expanded s.args.file.now s.args.words.now) (d : Setting) → Framed d s.args.frame s.args.arguments.now →
-    flow_in s.args.variables.now s.args.locals.now s.args.balances.now l.guard.result
-    ≡ flow_of (guarded d (met s a).tree (machine s))
-guards l a d h =
-    let g = l in
-    let b = bytes g.before.before.before.before.before a in
-    g.guard.ensures _ b.bytes d h ∙ ap (λ (e : Expr). flow_of (guarded d e (machine (start l)))) b.is
-
--- where its step leads
-abbrev left : lts.After-led tie.the-claims own.Pre own.Post → Reached
-left l = let a = (start l).args in reached_in a.variables.now a.locals.now a.balances.now l.led-r.result
-
-leads :
-    (l : lts.After-led tie.the-claims own.Pre own.Post) →
-    let s = start l in
-    (a : Expanded s.args.file.now s.args.words.now) (d : Setting) → Framed d s.args.frame s.args.arguments.now →
-    left l ≡ reached_of (admitted_in s.args.file.now a.tree d (step_at s.args.words.now s.args.place) (machine s))
-leads l a d h =
-    let s = start l in
-    admits a s.args.place d (machine s) _ (met s a) (guards l a d h) (l.led-r.ensures _ _ _) l.word-to.ensures
+    {file : List ℕ} {tree : Expr} {at : ℕ} {f : Flow} (b : ExprFrom file tree at) (d : Setting) (m : Machine) → f ≡ flow_of (guarded d b.bytes.tree m) →
+    f ≡ flow_of (guarded d tree m)
+guards b d m is = is ∙ ap (λ (e : Expr). flow_of (guarded d e m)) b.is
 
 pub word-requires : goal.word-requires
-word-requires c = omega (arith, room c.before.before)
+word-requires c = omega (arith, room c.requires.0)
 
 pub word-to-requires : goal.word-to-requires
-word-to-requires c = omega (arith, room c.before.before.before.before)
+word-to-requires c = omega (arith, room c.requires.0)
 
-part-start : (c : goal.After-word-to) → c.wide-at.result ≤ length c.args.file.now
-part-start c = (bytes c.before c.requires.0.walkable.expanded).within
+pub slice_bounds-guard-start : goal.slice_bounds-guard-start
+slice_bounds-guard-start c = (bytes c.requires.0 (c.wide-at.ensures ∙ c.word.ensures) c.requires.0.walkable.expanded).within
+
+pub slice_bounds-guard-count : goal.slice_bounds-guard-count
+slice_bounds-guard-count c = (bytes c.requires.0 (c.wide-at.ensures ∙ c.word.ensures) c.requires.0.walkable.expanded).within
 
 pub guard-requires : goal.guard-requires
-guard-requires c =
-    let w = c.before.before.before.before in
-    (bytes w w.requires.0.walkable.expanded).bytes
+guard-requires c = (bytes c.requires.0 (c.wide-at.ensures ∙ c.word.ensures) c.requires.0.walkable.expanded).bytes
 
 pub returns-then-p-gt0 : goal.returns-then-p-gt0
 returns-then-p-gt0 c = λ a t e d h f.
-    let l = c.before.before.before in
-    let s = start l in
-    let file = s.args.file.now in
-    let step = step_at s.args.words.now s.args.place in
-    by-stops d (records_in file a.tree.fields.variables) a.tree.fields (expansion a.tree) step (machine s) (leads l a d h)
-    (ended-code _ c.if-p-gt0.true)
-    ∙ ap (λ (t : Step). reached_of (walk_by_in file a.tree d (some t) (machine s))) (at_here (at_place a s.args.place e) e)
+    let file = c.args.file.now in
+    let step = step_at c.args.words.now c.args.place in
+    let m = machine_of c.args.variables.now c.args.locals.now c.args.balances.now c.args.n in
+    let b = bytes c.requires.0 (c.wide-at.ensures ∙ c.word.ensures) a in
+    let g = guards b d m (c.guard.ensures _ b.bytes d h) in
+    let leads = admits a c.args.place d m _ (met c.requires.0 a) g (c.led-r.ensures _ _ _) c.word-to.ensures in
+    by-stops d (records_in file a.tree.fields.variables) a.tree.fields (expansion a.tree) step m leads (ended-code _ c.if-p-gt0.true)
+    ∙ ap (λ (t : Step). reached_of (walk_by_in file a.tree d (some t) m)) (at_here (at_place a c.args.place e) e)
 
 pub walk-requires : goal.walk-requires
 walk-requires c =
-    let l = c.before.before.before.before.before.before.before in
-    let s = start l in
-    let a = s.requires.0.walkable.expanded in
-    let k = guard-kept s.args.frame s.args.arguments.now (machine s) s.requires.1.room (met s a).tree (guards l a) in
-    let v = ap (λ (r : Reached). r.flow.machine) (l.led-r.ensures _ _ _) ∙ toward-machine _ _ _ in
-    (s.requires.0.walkable, subst (Funded s.args.frame.accounts) (sym v) (still-funded k s.requires.1))
+    let m = machine_of c.args.variables.now c.args.locals.now c.args.balances.now c.args.n in
+    let a = c.requires.0.walkable.expanded in
+    let b = bytes c.requires.0 (c.wide-at.ensures ∙ c.word.ensures) a in
+    let k = guard-kept c.args.frame c.args.arguments.now m c.requires.1.room (met c.requires.0 a).tree (λ d h. guards b d m (c.guard.ensures _ b.bytes d h)) in
+    let v = ap (λ (r : Reached). r.flow.machine) (c.led-r.ensures _ _ _) ∙ toward-machine _ _ _ in
+    (c.requires.0.walkable, subst (Funded c.args.frame.accounts) (sym v) (still-funded k c.requires.1))
 
 pub returns : goal.returns
 returns c = λ a t e d h f.
-    let i = c in
-    let l = i.before.before.before in
-    let s = start l in
-    let file = s.args.file.now in
-    let step = step_at s.args.words.now s.args.place in
-    let g = going-code l.led-r.result.progress.code (omega (arith, i.if-p-gt0.false)) in
+    let file = c.args.file.now in
+    let step = step_at c.args.words.now c.args.place in
+    let m = machine_of c.args.variables.now c.args.locals.now c.args.balances.now c.args.n in
+    let b = bytes c.requires.0 (c.wide-at.ensures ∙ c.word.ensures) a in
+    let g = guards b d m (c.guard.ensures _ b.bytes d h) in
+    let leads = admits a c.args.place d m _ (met c.requires.0 a) g (c.led-r.ensures _ _ _) c.word-to.ensures in
+    let goes = going-code c.led-r.result.progress.code (omega (arith, c.if-p-gt0.false)) in
     c.walk.ensures a d h f
-    ∙ ap reached_of (sym (by-goes d (records_in file a.tree.fields.variables) a.tree.fields (expansion a.tree) step (machine s) (leads l a d h) g))
-    ∙ ap (λ (t : Step). reached_of (walk_by_in file a.tree d (some t) (machine s))) (at_here (at_place a s.args.place e) e)
+    ∙ ap reached_of (sym (by-goes d (records_in file a.tree.fields.variables) a.tree.fields (expansion a.tree) step m leads goes))
+    ∙ ap (λ (t : Step). reached_of (walk_by_in file a.tree d (some t) m)) (at_here (at_place a c.args.place e) e)

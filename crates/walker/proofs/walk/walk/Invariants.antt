@@ -12,9 +12,6 @@ use Rattle.actions.specs.Frames.{Framed}
 use Rattle.walker.specs.Tables.{Expanded}
 use Rattle.walker.specs.Runs.{Reached, reached_in, reached_of, walk_in}
 use Rattle.walker.proofs.Walks.{ready, ends-here, no_step, stops-here, goes_on, advance-kept, advance-costs}
-use Rattle.walker.proofs.walk.walk.Lts as lts
-use Rattle.walker.proofs.walk.walk.Tie as tie
-use Rattle.walker.proofs.walk.walk.Reads as own
 use Rattle.walker.proofs.walk.walk.Given as goal
 
 abbrev pub invariant-loop-at : goal.invariant-loop-at
