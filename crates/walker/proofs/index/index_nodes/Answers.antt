@@ -1,0 +1,37 @@
+-- The steps from the i-th on are in the index.
+use Prim.Native.Nat.{ℕ, ◌-◌, ◌≤◌}
+use mathlib.Core.Path.{◌≡◌, ◌∙◌}
+use mathlib.Core.List.{List}
+use native.Mathlib.Omega.{arith}
+use lib.ListN.{length, length-replicate, length-set}
+use borrow.Author.Rules.{rules}
+use Rattle.rules.specs.Expanding.{expansion}
+use Rattle.walker.specs.Tables.{Expanded}
+use Rattle.walker.proofs.Bounds.{Within, few, within}
+use Rattle.walker.proofs.Indexes.{IndexedFrom, index-none, index-more, index-all}
+use Rattle.walker.proofs.index.index_nodes.Goals as goal
+
+pub loop-i-init : goal.loop-i-init
+loop-i-init c = (omega arith, length-replicate {A = ℕ} 1091 0, λ file a e. index-none 1091 c.args.steps (expansion a.tree) e)
+
+pub word-requires : goal.word-requires
+word-requires c = omega (arith, (within c.requires (c.loop-i.i - 1) (omega arith)).step.room)
+
+pub overflow_cast-nodes : goal.overflow_cast-nodes
+overflow_cast-nodes c = omega (arith, few c.requires)
+
+pub bounds-nodes-origin : goal.bounds-nodes-origin
+bounds-nodes-origin c = omega (arith, (within c.requires (c.loop-i.i - 1) (omega arith)).origin, c.wide-origin.ensures, c.word.ensures)
+
+pub loop-i-preserved : goal.loop-i-preserved
+loop-i-preserved c =
+    let o = c.wide-origin.ensures ∙ c.word.ensures in (
+      omega arith,
+      length-set c.loop-i.nodes c.wide-origin.result c.loop-i.i ∙ c.loop-i.invariant.1,
+      λ file a e.
+          let w = within (record { file = file; expanded = a; counts = e }) (c.loop-i.i - 1) (omega arith) in
+          index-more c.loop-i.nodes w.step (omega arith) o (omega (arith, o, w.origin, c.loop-i.invariant.1)) (c.loop-i.invariant.2 file a e),
+    )
+
+pub returns : goal.returns
+returns c = λ file a e. index-all (expansion a.tree) c.loop-i.nodes (omega arith) c.loop-i.invariant.1 (c.loop-i.invariant.2 file a e)

@@ -1,0 +1,20 @@
+use Prim.Native.Nat.{ℕ, ◌-◌, ◌≤◌}
+use mathlib.Core.Path.{◌≡◌, ◌∙◌}
+use mathlib.Core.List.{List}
+use native.Mathlib.Omega.{arith}
+use lib.ListN.{length, length-replicate, length-set}
+use borrow.Author.Rules.{rules}
+use Rattle.rules.specs.Expanding.{expansion}
+use Rattle.walker.specs.Tables.{Expanded}
+use Rattle.walker.proofs.Bounds.{Within, few, within}
+use Rattle.walker.proofs.Indexes.{IndexedFrom, index-none, index-more, index-all}
+use Rattle.walker.proofs.index.index_nodes.Given as goal
+
+abbrev pub invariant-loop-i : goal.invariant-loop-i
+invariant-loop-i l =
+    (l.i ≤ l.steps)
+    × (length l.nodes ≡ 1091)
+    × ((file : List ℕ) (a : Expanded file l.words) → l.steps ≡ length (expansion a.tree) → IndexedFrom l.i (expansion a.tree) l.nodes)
+
+abbrev pub decreases-loop-i : goal.decreases-loop-i
+decreases-loop-i l = l.i

@@ -1,0 +1,25 @@
+use Prim.Native.Nat.{◌-◌}
+use mathlib.Core.Path.{◌≡◌, refl, sym, ap, ◌∙◌}
+use mathlib.Core.Bool.{true}
+use native.Mathlib.Omega.{arith}
+use borrow.Author.Rules.{rules}
+use Rattle.rules.specs.declared.Machine.{Machine}
+use Rattle.rules.specs.Running.{Setting}
+use Rattle.machine.specs.Flows.{machine_of, is_going, Funded}
+use Rattle.machine.proofs.Codes.{going-code, ended-code}
+use Rattle.machine.proofs.Keeping.{Kept, still-funded, kept_same, kept_on}
+use Rattle.actions.specs.Frames.{Framed}
+use Rattle.walker.specs.Tables.{Expanded}
+use Rattle.walker.specs.Runs.{Reached, reached_in, reached_of, walk_in}
+use Rattle.walker.proofs.Walks.{ready, ends-here, no_step, stops-here, goes_on, advance-kept, advance-costs}
+use Rattle.walker.proofs.walk.walk.Given as goal
+
+abbrev pub invariant-loop-at : goal.invariant-loop-at
+invariant-loop-at l =
+    Kept l.frame.limit (machine_of l.initial.variables l.initial.locals l.initial.balances l.initial.m) (machine_of l.variables l.locals l.balances l.m)
+    × ((a : Expanded l.file l.words) (c : Setting) → Framed c l.frame l.arguments → c.fields ≡ a.tree.fields →
+    walk_in l.file a.tree c l.initial.at (machine_of l.initial.variables l.initial.locals l.initial.balances l.initial.m) ≡ walk_in l.file a.tree c l.at (machine_of l.variables l.locals l.balances l.m))
+
+-- each step charges a unit
+abbrev pub decreases-loop-at : goal.decreases-loop-at
+decreases-loop-at l = l.frame.limit - l.m.units
