@@ -1,4 +1,4 @@
--- The first of the places are those of the kind 1 steps before the i-th.
+-- `index_entries` meets its contract.
 use Prim.Native.Nat.{ℕ}
 use mathlib.Core.Path.{◌≡◌, sym, ap, ◌∙◌}
 use mathlib.Core.List.{List}

@@ -1,3 +1,4 @@
+-- The first of the places are those of the kind 1 steps before the i-th.
 use Prim.Native.Nat.{ℕ, ◌-◌, ◌≤◌}
 use mathlib.Core.Path.{◌≡◌}
 use mathlib.Core.List.{List}

@@ -1,4 +1,4 @@
--- The steps from the i-th on are in the index.
+-- `index_nodes` meets its contract.
 use Prim.Native.Nat.{ℕ, ◌-◌}
 use mathlib.Core.Path.{◌∙◌}
 use native.Mathlib.Omega.{arith}

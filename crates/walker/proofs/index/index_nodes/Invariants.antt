@@ -1,3 +1,4 @@
+-- The steps from the i-th on are in the index.
 use Prim.Native.Nat.{ℕ, ◌≤◌}
 use mathlib.Core.Path.{◌≡◌}
 use mathlib.Core.List.{List}

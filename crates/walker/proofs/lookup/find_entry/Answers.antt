@@ -1,4 +1,4 @@
--- What is found is what is found at the places that are left, by whether a step that was passed has the name.
+-- `find_entry` meets its contract.
 use Prim.Native.Nat.{ℕ, ◌+◌, ◌*◌, ◌≤◌, ◌<◌}
 use mathlib.Core.Path.{◌≡◌, sym, subst, ◌∙◌}
 use mathlib.Core.List.{List}

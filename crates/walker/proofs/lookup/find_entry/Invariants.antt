@@ -1,3 +1,4 @@
+-- What is found is what is found at the places that are left, by whether a step that was passed has the name.
 use Prim.Native.Nat.{ℕ, ◌-◌, ◌≤◌}
 use mathlib.Core.List.{List}
 use lib.ListN.{drop}

@@ -1,4 +1,4 @@
--- `walk` meets its contract. The invariant: from the present node and machine the run is what it is from the first.
+-- `walk` meets its contract.
 use mathlib.Core.Path.{refl, sym, ap, ◌∙◌}
 use native.Mathlib.Omega.{arith}
 use Rattle.machine.proofs.Codes.{going-code, ended-code}

@@ -1,3 +1,4 @@
+-- From the present node and machine the run is what it is from the first.
 use Prim.Native.Nat.{◌-◌}
 use mathlib.Core.Path.{◌≡◌}
 use Rattle.rules.specs.Running.{Setting}
