@@ -1,16 +1,14 @@
--- The first of the places are those of the kind 1 steps before the i-th.
-use Prim.Native.Nat.{ℕ, ◌+◌, ◌-◌, ◌≤◌}
+-- `index_entries` meets its contract.
+use Prim.Native.Nat.{ℕ}
 use mathlib.Core.Path.{◌≡◌, sym, ap, ◌∙◌}
 use mathlib.Core.List.{List}
-use mathlib.Core.Logic.{⊎_elim}
 use native.Mathlib.Omega.{arith}
 use lib.ListN.{length, replicate, length-replicate, length-set}
-use borrow.Author.Rules.{rules}
 use Rattle.rules.specs.Expanding.{expansion}
 use Rattle.walker.specs.Tables.{Expanded}
 use Rattle.walker.proofs.Bounds.{few, within}
 use Rattle.walker.proofs.Tables.{Here}
-use Rattle.walker.proofs.Indexes.{EnteredTo, entries_none, entries-here, entries-other, entries-all}
+use Rattle.walker.proofs.Indexes.{entries_none, entries-here, entries-other, entries-all}
 use Rattle.walker.proofs.index.index_entries.Goals as goal
 use Rattle.walker.proofs.index.index_entries.Goals.{then-word-eq1, else-word-eq1}
 
@@ -44,12 +42,20 @@ loop-i-preserved c =
     let here : (file : List ℕ) (a : Expanded file words) → c.args.steps ≡ length (expansion a.tree) → Here words (expansion a.tree) i
     = λ file a e. (within (record { file = file; expanded = a; counts = e }) i (omega arith)).step in
     elim c.if-word-eq1.branch [
-      | then-word-eq1 w ↦
-          (omega arith, omega (arith, w.count-is), ap length w.places-is ∙ length-set p n i ∙ h.2, λ file a e.
-          rw (w.places-is, w.count-is) (entries-here (here file a e) p n (h.3 file a e) (sym kind ∙ w.if-word-eq1.true) (omega arith)))
-      | else-word-eq1 w ↦
-          (omega arith, omega (arith, w.count-is), ap length w.places-is ∙ h.2, λ file a e.
-          rw (w.places-is, w.count-is) (entries-other (here file a e) p n (h.3 file a e) (λ z. w.if-word-eq1.false (kind ∙ z))))
+      | then-word-eq1 w ↦ (
+        omega arith,
+        omega (arith, w.count-is),
+        ap length w.places-is ∙ length-set p n i ∙ h.2,
+        λ file a e.
+            rw (w.places-is, w.count-is) (entries-here (here file a e) p n (h.3 file a e) (sym kind ∙ w.if-word-eq1.true) (omega arith)),
+      )
+      | else-word-eq1 w ↦ (
+        omega arith,
+        omega (arith, w.count-is),
+        ap length w.places-is ∙ h.2,
+        λ file a e.
+            rw (w.places-is, w.count-is) (entries-other (here file a e) p n (h.3 file a e) (λ z. w.if-word-eq1.false (kind ∙ z))),
+      )
     ]
 
 pub returns : goal.returns

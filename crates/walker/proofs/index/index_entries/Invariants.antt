@@ -1,15 +1,11 @@
-use Prim.Native.Nat.{ℕ, ◌+◌, ◌-◌, ◌≤◌}
-use mathlib.Core.Path.{◌≡◌, sym, subst₂, ◌∙◌}
+-- The first of the places are those of the kind 1 steps before the i-th.
+use Prim.Native.Nat.{ℕ, ◌-◌, ◌≤◌}
+use mathlib.Core.Path.{◌≡◌}
 use mathlib.Core.List.{List}
-use mathlib.Core.Logic.{⊎_elim}
-use native.Mathlib.Omega.{arith}
-use lib.ListN.{length, replicate, length-replicate, length-set}
-use borrow.Author.Rules.{rules}
+use lib.ListN.{length}
 use Rattle.rules.specs.Expanding.{expansion}
 use Rattle.walker.specs.Tables.{Expanded}
-use Rattle.walker.proofs.Bounds.{few, within}
-use Rattle.walker.proofs.Tables.{Here}
-use Rattle.walker.proofs.Indexes.{EnteredTo, entries_none, entries-here, entries-other, entries-all}
+use Rattle.walker.proofs.Indexes.{EnteredTo}
 use Rattle.walker.proofs.index.index_entries.Given as goal
 
 abbrev pub invariant-loop-i : goal.invariant-loop-i

@@ -1,14 +1,11 @@
--- The steps from the i-th on are in the index.
-use Prim.Native.Nat.{ℕ, ◌-◌, ◌≤◌}
-use mathlib.Core.Path.{◌≡◌, ◌∙◌}
-use mathlib.Core.List.{List}
+-- `index_nodes` meets its contract.
+use Prim.Native.Nat.{ℕ, ◌-◌}
+use mathlib.Core.Path.{◌∙◌}
 use native.Mathlib.Omega.{arith}
-use lib.ListN.{length, length-replicate, length-set}
-use borrow.Author.Rules.{rules}
+use lib.ListN.{length-replicate, length-set}
 use Rattle.rules.specs.Expanding.{expansion}
-use Rattle.walker.specs.Tables.{Expanded}
-use Rattle.walker.proofs.Bounds.{Within, few, within}
-use Rattle.walker.proofs.Indexes.{IndexedFrom, index-none, index-more, index-all}
+use Rattle.walker.proofs.Bounds.{few, within}
+use Rattle.walker.proofs.Indexes.{index-none, index-more, index-all}
 use Rattle.walker.proofs.index.index_nodes.Goals as goal
 
 pub loop-i-init : goal.loop-i-init

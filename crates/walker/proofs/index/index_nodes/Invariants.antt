@@ -1,13 +1,11 @@
-use Prim.Native.Nat.{ℕ, ◌-◌, ◌≤◌}
-use mathlib.Core.Path.{◌≡◌, ◌∙◌}
+-- The steps from the i-th on are in the index.
+use Prim.Native.Nat.{ℕ, ◌≤◌}
+use mathlib.Core.Path.{◌≡◌}
 use mathlib.Core.List.{List}
-use native.Mathlib.Omega.{arith}
-use lib.ListN.{length, length-replicate, length-set}
-use borrow.Author.Rules.{rules}
+use lib.ListN.{length}
 use Rattle.rules.specs.Expanding.{expansion}
 use Rattle.walker.specs.Tables.{Expanded}
-use Rattle.walker.proofs.Bounds.{Within, few, within}
-use Rattle.walker.proofs.Indexes.{IndexedFrom, index-none, index-more, index-all}
+use Rattle.walker.proofs.Indexes.{IndexedFrom}
 use Rattle.walker.proofs.index.index_nodes.Given as goal
 
 abbrev pub invariant-loop-i : goal.invariant-loop-i

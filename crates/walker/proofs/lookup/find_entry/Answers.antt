@@ -1,17 +1,12 @@
--- What is found is what is found at the places that are left, by whether a step that was passed has the name.
-use Prim.Native.Nat.{ℕ, ◌+◌, ◌-◌, ◌*◌, ◌≤◌, ◌<◌}
+-- `find_entry` meets its contract.
+use Prim.Native.Nat.{ℕ, ◌+◌, ◌*◌, ◌≤◌, ◌<◌}
 use mathlib.Core.Path.{◌≡◌, sym, subst, ◌∙◌}
-use mathlib.Core.Bool.{Bool}
 use mathlib.Core.List.{List}
-use mathlib.Core.Logic.{⊎_elim}
-use mathlib.Core.Option.{none}
 use native.Mathlib.Omega.{arith}
-use lib.ListN.{length, drop, get_or}
-use borrow.Author.Rules.{rules}
+use lib.ListN.{length, get_or}
 use Rattle.rules.specs.Expanding.{expansion}
-use Rattle.rules.specs.Stepping.{entry_known, entry_of}
-use Rattle.walker.specs.Tables.{Expanded, guard_places, Entered, Listed}
-use Rattle.walker.proofs.Guards.{Left, Place, left-all, place, found_here, found-other, found_none, found-end}
+use Rattle.walker.specs.Tables.{Expanded, Entered, Listed}
+use Rattle.walker.proofs.Guards.{Place, left-all, place, found_here, found-other, found_none, found-end}
 use Rattle.walker.proofs.lookup.find_entry.Goals as goal
 use Rattle.walker.proofs.lookup.find_entry.Goals.{then-word-name+else-word-state, else-word-name}
 

@@ -1,16 +1,10 @@
-use Prim.Native.Nat.{ℕ, ◌+◌, ◌-◌, ◌*◌, ◌≤◌}
-use mathlib.Core.Path.{◌≡◌, sym, subst, ◌∙◌}
-use mathlib.Core.Bool.{Bool}
+-- What is found is what is found at the places that are left, by whether a step that was passed has the name.
+use Prim.Native.Nat.{ℕ, ◌-◌, ◌≤◌}
 use mathlib.Core.List.{List}
-use mathlib.Core.Logic.{⊎_elim}
-use mathlib.Core.Option.{none}
-use native.Mathlib.Omega.{arith}
-use lib.ListN.{length, drop}
-use borrow.Author.Rules.{rules}
+use lib.ListN.{drop}
 use Rattle.rules.specs.Expanding.{expansion}
-use Rattle.rules.specs.Stepping.{entry_known, entry_of}
 use Rattle.walker.specs.Tables.{Expanded, guard_places, Entered}
-use Rattle.walker.proofs.Guards.{Left, Place, left-all, place, found_here, found-other, found_none, found-end}
+use Rattle.walker.proofs.Guards.{Left}
 use Rattle.walker.proofs.lookup.find_entry.Given as goal
 
 abbrev pub invariant-loop-i : goal.invariant-loop-i

@@ -6,8 +6,6 @@ use native.Mathlib.Omega.{arith}
 use Rattle.rules.specs.Syntax.{Expr}
 use Rattle.rules.specs.declared.Machine.{Machine}
 use Rattle.rules.specs.Running.{Setting, condition}
-use Rattle.records.specs.Acceptance.{Accepted}
-use Rattle.records.specs.Checking.{from}
 use Rattle.machine.specs.Flows.{Tested, tested_of}
 use Rattle.walker.specs.Tables.{Expanded, word_at, step_at}
 use Rattle.walker.specs.Runs.{Ready}

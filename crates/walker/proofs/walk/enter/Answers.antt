@@ -15,7 +15,7 @@ use Rattle.machine.proofs.Codes.{going-code, ended-code}
 use Rattle.machine.proofs.Keeping.{still-funded}
 use Rattle.actions.proofs.Frames.{guard-kept}
 use Rattle.walker.specs.Tables.{Expanded, word_at, step_at}
-use Rattle.walker.specs.Runs.{Reached, reached_of, toward, admitted_in, walk_by_in, Enterable}
+use Rattle.walker.specs.Runs.{Reached, reached_of, walk_by_in, Enterable}
 use Rattle.walker.proofs.Tables.{at_here}
 use Rattle.walker.proofs.Ends.{toward-machine, by-stops, by-goes}
 use Rattle.walker.proofs.Meeting.{entry_of, ExprFrom, ExprAt, at_place, guard-there}

@@ -1,5 +1,4 @@
 -- `halted` meets its contract: 2 more than the number is the code of its refusal.
-use borrow.Author.Rules.{rules}
 use Rattle.walker.proofs.Ends.{code-halts}
 use Rattle.walker.proofs.walk.halted.Goals as goal
 

@@ -1,6 +1,5 @@
 -- `led` meets its contract: by the action's code.
 use mathlib.Core.Path.{◌∙◌}
-use borrow.Author.Rules.{rules}
 use Rattle.walker.proofs.Ends.{code_stays, code-leads}
 use Rattle.walker.proofs.walk.led.Goals as goal
 

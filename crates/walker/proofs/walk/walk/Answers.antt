@@ -1,17 +1,9 @@
--- `walk` meets its contract. The invariant: from the present node and machine the run is what it is from the first.
-use Prim.Native.Nat.{◌-◌}
-use mathlib.Core.Path.{◌≡◌, refl, sym, ap, ◌∙◌}
-use mathlib.Core.Bool.{true}
+-- `walk` meets its contract.
+use mathlib.Core.Path.{refl, sym, ap, ◌∙◌}
 use native.Mathlib.Omega.{arith}
-use borrow.Author.Rules.{rules}
-use Rattle.rules.specs.declared.Machine.{Machine}
-use Rattle.rules.specs.Running.{Setting}
-use Rattle.machine.specs.Flows.{machine_of, is_going, Funded}
 use Rattle.machine.proofs.Codes.{going-code, ended-code}
-use Rattle.machine.proofs.Keeping.{Kept, still-funded, kept_same, kept_on}
-use Rattle.actions.specs.Frames.{Framed}
-use Rattle.walker.specs.Tables.{Expanded}
-use Rattle.walker.specs.Runs.{Reached, reached_in, reached_of, walk_in}
+use Rattle.machine.proofs.Keeping.{still-funded, kept_same, kept_on}
+use Rattle.walker.specs.Runs.{reached_of}
 use Rattle.walker.proofs.Walks.{ready, ends-here, no_step, stops-here, goes_on, advance-kept, advance-costs}
 use Rattle.walker.proofs.walk.walk.Goals as goal
 
