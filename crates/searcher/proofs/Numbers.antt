@@ -18,7 +18,7 @@ use Rattle.runner.proofs.Numbers.{entries, entries-all}
 
 -- the rows of a verdict that a function is given are eight
 pub judged-rows : (j : Judged) (vs : List Val) → Is (D.row Judgeds.the_type) j vs → length j.rows ≡ 8
-judged-rows j vs p = sym (length-map j.rows (λ v. v)) ∙ good_length (e_int w8) 8 (map (λ v. v) j.rows) _ p.1.1.1.0
+judged-rows j vs p = good_length (e_int w8) 8 j.rows _ p.1.1.1.0
 
 five : (v : Verdict) → length (verdict_numbers v) ≡ 5
 unfolding verdict_numbers
