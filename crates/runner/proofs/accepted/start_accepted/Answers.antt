@@ -24,6 +24,12 @@ entered-n-requires c =
 pub layout-l-requires : goal.layout-l-requires
 layout-l-requires c = tree_of c.requires
 
+pub slice_bounds-run_statement-start : goal.slice_bounds-run_statement-start
+slice_bounds-run_statement-start c =
+    let t = tree_of c.requires in
+    let x : ActionAt c.args.file.now c.layout-l.result.initial c.requires.tree.initial = initial-at (record { read = t; out = c.layout-l.ensures t }) t in
+    omega (arith, x.fits)
+
 pub slice_bounds-run_statement-count : goal.slice_bounds-run_statement-count
 slice_bounds-run_statement-count c =
     let t = tree_of c.requires in
