@@ -46,6 +46,10 @@ use Rattle.runner.proofs.Runs.{no-and, call-elsewhere, call-run}
 abbrev pub file-of : {file words : List ℕ} → Expanded file words → AcceptedFile file
 file-of a = record { tree = a.tree; is = a.is }
 
+-- words that were found to begin with its expansion
+abbrev pub beginning : {file words : List ℕ} (a : AcceptedFile file) {b : Bool} → b ≡ begins_with words (table (expansion a.tree)) → b ≡ true → Expanded file words
+beginning a h e = record { tree = a.tree; is = a.is; begins = sym h ∙ e }
+
 -- what is known of it does not depend on how the file was accepted
 pub fields-of : {file words nodes : List ℕ} {f : Fields} (a : Expanded file words) → Walks file words nodes f → f ≡ a.tree.fields
 fields-of a w = w.fields ∙ ap (λ (t : Agreement). t.fields) (same-accepted (file-of w.expanded) (file-of a))
