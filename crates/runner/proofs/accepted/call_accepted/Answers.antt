@@ -11,22 +11,17 @@ use Rattle.runner.proofs.accepted.call_accepted.Goals as goal
 pub fields-f-requires : goal.fields-f-requires
 fields-f-requires c = tree_of c.requires
 
-fields-are : (c : goal.After-fields-f) (a : AcceptedFile c.args.file.now) → c.fields-f.result ≡ a.tree.fields-f
-fields-are c a = c.fields-f.ensures (tree_of a)
-
 pub first_refusal-n-requires : goal.first_refusal-n-requires
-first_refusal-n-requires c = let a = c.requires in accounts-few a (fields-are c a)
+first_refusal-n-requires c = accounts-few c.requires (c.fields-f.ensures (tree_of c.requires))
 
 pub returns-then-n-gt0 : goal.returns-then-n-gt0
 returns-then-n-gt0 c = λ a.
-    let i = c in
-    let s = i in
-    let n = i.first_refusal-n.result in
+    let s = c.args in
+    let n = c.first_refusal-n.result in
     rw (c.refused_call.ensures, c.refusal.ensures)
-    (call-refused (fields-are i.before.before a) s.args.s s.args.k _ _ (tree-call a.tree s.args.s s.args.k) n
-    (i.first_refusal-n.ensures ∙ numbered-some n i.if-n-gt0.true))
+    (call-refused (c.fields-f.ensures (tree_of a)) s.s s.k _ _ (tree-call a.tree s.s s.k) n (c.first_refusal-n.ensures ∙ numbered-some n c.if-n-gt0.true))
 
 pub call_passed-requires : goal.call_passed-requires
 call_passed-requires c =
-    let s = c in
-    (s.requires, fields-are c.before.before, first-passed _ _ _ (c.first_refusal-n.ensures ∙ numbered-none c.first_refusal-n.result (omega arith)))
+    let n = c.first_refusal-n.result in
+    (c.requires, λ a. c.fields-f.ensures (tree_of a), first-passed _ _ _ (c.first_refusal-n.ensures ∙ numbered-none n (omega arith)))

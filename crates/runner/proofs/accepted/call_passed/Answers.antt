@@ -13,114 +13,91 @@ use Rattle.access.specs.Trees.{AcceptedFile}
 use Rattle.access.specs.Places.{Laid}
 use Rattle.access.proofs.Using.{ActionAt, FoundAt, fallback-at, find_at, find-elsewhere, find-unknown, tree_of}
 use Rattle.runner.proofs.Runs.{standing, few-accounts, moves, call_enters, tree-elsewhere, tree-unknown, tree-found}
-use Rattle.runner.proofs.accepted.call_passed.Lts as lts
-use Rattle.runner.proofs.accepted.call_passed.Tie as tie
-use Rattle.runner.proofs.accepted.call_passed.Reads as own
 use Rattle.runner.proofs.accepted.call_passed.Goals as goal
-
-entry : (s : lts.Start tie.the-claims own.Pre own.Post) → (length s.args.s.balances-1 ≡ 8) × Enters s.args.s s.args.k
-entry s =
-    let full = (state-lengths s.args.s _ s.well_formed.1.1.0).1 in
-    (full, call_enters s.requires.0 (s.requires.1 s.requires.0) s.requires.2 full)
 
 pub entered-n-requires : goal.entered-n-requires
 unfolding total
-entered-n-requires c = let e = (entry c.before.before.before.before).1 in (e.sender, e.coins, e.small)
+entered-n-requires c =
+    let a = c.requires.0 in
+    let full = (state-lengths c.args.s _ c.well_formed.1.1.0).1 in
+    let e = call_enters a (c.requires.1 a) c.requires.2 full in
+    (e.sender, e.coins, e.small)
 
 pub layout-l-requires : goal.layout-l-requires
 layout-l-requires c = tree_of c.requires.0
 
--- what the layout was asked of
-abbrev begun : goal.After-layout-l → lts.Start tie.the-claims own.Pre own.Post
-begun c = c.before.before.before.before.before.before.before.before
-
-laid : (c : goal.After-layout-l) (a : AcceptedFile (begun c).args.file.now) → Laid (begun c).args.file.now c.layout-l.result
-laid c a = record { read = tree_of a; out = c.layout-l.ensures (tree_of a) }
-
 pub find_transition-requires : goal.find_transition-requires
-find_transition-requires c = laid c (begun c).requires.0
+find_transition-requires c = let t = tree_of c.requires.0 in record { read = t; out = c.layout-l.ensures t }
 
--- the machine that the call begins with
-abbrev machine : goal.After-layout-l → Machine
-machine c =
-    let e = c.entered-n in
-    machine_of (begun c).args.s.variables-1 (replicate 8 0) e.new.1.1.0 e.result
-
-begins : (c : goal.After-layout-l) → machine c ≡ entered (begun c).args.k (begun c).args.s
-begins c = c.entered-n.ensures _ _
-
-funded : (c : goal.After-layout-l) → Funded c.frame_of-frame.result.accounts (machine c)
-funded c =
-    let s = begun c in
-    let e = entry s in
-    let few = few-accounts s.requires.0 (s.requires.1 s.requires.0) c.frame_of-frame.ensures in
-    subst (Funded c.frame_of-frame.result.accounts) (sym (begins c)) (enters-funded e.1 few e.0)
-
--- the fallback action, at its offset
-fallback :
-    (c : goal.After-layout-l) (a : AcceptedFile (begun c).args.file.now) →
-    ActionAt (begun c).args.file.now c.layout-l.result.fallback a.tree.fallback
-fallback c a = fallback-at (laid c a) (tree_of a)
+pub slice_bounds-run_statement-start : goal.slice_bounds-run_statement-start
+slice_bounds-run_statement-start c =
+    let t = tree_of c.requires.0 in
+    let x : ActionAt c.args.file.now c.layout-l.result.fallback c.requires.0.tree.fallback = fallback-at (record { read = t; out = c.layout-l.ensures t }) t in
+    omega (arith, x.fits)
 
 pub slice_bounds-run_statement-count : goal.slice_bounds-run_statement-count
-slice_bounds-run_statement-count c = let l = c.before.before.before in omega (arith, (fallback l (begun l).requires.0).fits)
+slice_bounds-run_statement-count c =
+    let t = tree_of c.requires.0 in
+    let x : ActionAt c.args.file.now c.layout-l.result.fallback c.requires.0.tree.fallback = fallback-at (record { read = t; out = c.layout-l.ensures t }) t in
+    omega (arith, x.fits)
 
 pub run_statement-p-requires : goal.run_statement-p-requires
 run_statement-p-requires c =
-    let l = c.before.before.before.before.before.before.before.before in
-    ((standing (fallback l (begun l).requires.0)).0, funded l)
+    let a = c.requires.0 in
+    let t = tree_of a in
+    let full = (state-lengths c.args.s _ c.well_formed.1.1.0).1 in
+    let few = few-accounts a (c.requires.1 a) c.frame_of-frame.ensures in
+    let e = call_enters a (c.requires.1 a) c.requires.2 full in
+    (
+      (standing {tree = a.tree.fallback} (fallback-at (record { read = t; out = c.layout-l.ensures t }) t)).0,
+      subst (Funded c.frame_of-frame.result.accounts) (sym (c.entered-n.ensures _ _)) (enters-funded e few full),
+    )
 
 -- the transition that was found
-found :
-    (c : goal.In-At) (a : AcceptedFile (begun c.before.before.before.before).args.file.now) →
-    let s = (begun c.before.before.before.before).args in
-    FoundAt s.file.now a.tree s.k.name s.s.state c.in-At.at-1
-found c a = find_at (tree_of a) _ _ _ (sym c.in-At.is ∙ c.find_transition.ensures (tree_of a))
-
 pub overflow_add-to : goal.overflow_add-to
-overflow_add-to c = omega (arith, (found c (begun c.before.before.before.before).requires.0).record-at.fits)
+overflow_add-to c =
+    let t = tree_of c.requires.0 in
+    let x = find_at t _ _ _ (sym c.in-At.is ∙ c.find_transition.ensures t) in
+    omega (arith, x.record-at.fits)
 
 pub bounds-file-at : goal.bounds-file-at
-bounds-file-at c = omega (arith, (found c.before (begun c.before.before.before.before.before).requires.0).record-at.fits)
-
-pub overflow_cast-to : goal.overflow_cast-to
-overflow_cast-to c = omega (arith, c.shared_slice_known-in-At-1.given (c.in-At.at-1 + 6))
+bounds-file-at c =
+    let t = tree_of c.requires.0 in
+    let x = find_at t _ _ _ (sym c.in-At.is ∙ c.find_transition.ensures t) in
+    omega (arith, x.record-at.fits)
 
 pub run_transition-p-requires : goal.run_transition-p-requires
 run_transition-p-requires c =
-    let k = c.before.before.before.before.before in
-    let l = k.before.before.before.before in
-    ((moves (found k (begun l).requires.0)).0, funded l)
+    let a = c.requires.0 in
+    let t = tree_of a in
+    let full = (state-lengths c.args.s _ c.well_formed.1.1.0).1 in
+    let few = few-accounts a (c.requires.1 a) c.frame_of-frame.ensures in
+    let e = call_enters a (c.requires.1 a) c.requires.2 full in
+    (
+      (moves (find_at t _ _ _ (sym c.in-At.is ∙ c.find_transition.ensures t))).0,
+      subst (Funded c.frame_of-frame.result.accounts) (sym (c.entered-n.ensures _ _)) (enters-funded e few full),
+    )
 
 pub returns-in-Elsewhere : goal.returns-in-Elsewhere
 returns-in-Elsewhere c = λ a.
-    let f = c in
-    let s = begun f.before in
-    let e = find-elsewhere (tree_of a) _ _ (sym c.in-Elsewhere.is ∙ f.find_transition.ensures (tree_of a)) in
-    rw (c.refused_call.ensures, c.refusal.ensures)
-    (tree-elsewhere a.tree s.args.s s.args.k (s.requires.1 a) s.requires.2 e.0 e.1)
+    let t = tree_of a in
+    let e = find-elsewhere t _ _ (sym c.in-Elsewhere.is ∙ c.find_transition.ensures t) in
+    rw (c.refused_call.ensures, c.refusal.ensures) (tree-elsewhere a.tree c.args.s c.args.k (c.requires.1 a) c.requires.2 e.0 e.1)
 
 pub returns-in-Unknown : goal.returns-in-Unknown
 returns-in-Unknown c = λ a.
-    let q = c in
-    let t = q in
-    let f = t in
-    let l = f.before in
-    let s = begun l in
-    let e = find-unknown (tree_of a) _ _ (sym t.in-Unknown.is ∙ f.find_transition.ensures (tree_of a)) in
-    let x = standing (fallback l a) in
-    let r = q.run_statement-p.ensures x.0 _ l.frame_of-frame.ensures in
+    let t = tree_of a in
+    let e = find-unknown t _ _ (sym c.in-Unknown.is ∙ c.find_transition.ensures t) in
+    let x = standing {tree = a.tree.fallback} (fallback-at (record { read = t; out = c.layout-l.ensures t }) t) in
+    let r = c.run_statement-p.ensures x.0 _ c.frame_of-frame.ensures in
     c.ended.ensures _ _ (rw x.1 at r)
-    ∙ tree-unknown a.tree s.args.s s.args.k (s.requires.1 a) s.requires.2 e.0 e.1 (begins l)
+    ∙ tree-unknown a.tree c.args.s c.args.k (c.requires.1 a) c.requires.2 e.0 e.1 (c.entered-n.ensures _ _)
 
 pub returns-in-At : goal.returns-in-At
 returns-in-At c = λ a.
-    let q = c in
-    let k = q.before.before.before.before.before.before in
-    let l = k.before.before.before.before in
-    let s = begun l in
-    let x = found k a in
+    let t = tree_of a in
+    let x = find_at t _ _ _ (sym c.in-At.is ∙ c.find_transition.ensures t) in
     let v = moves x in
-    let r = q.run_transition-p.ensures v.0 _ l.frame_of-frame.ensures in
+    let r = c.run_transition-p.ensures v.0 _ c.frame_of-frame.ensures in
     c.ended-in-At.ensures _ _ (rw (v.1, v.2) at r)
-    ∙ tree-found a.tree s.args.s s.args.k (s.requires.1 a) s.requires.2 x.transition x.is (begins l) x.record-at.to
+    ∙ tree-found a.tree c.args.s c.args.k (c.requires.1 a) c.requires.2 x.transition x.is (c.entered-n.ensures _ _) x.record-at.to

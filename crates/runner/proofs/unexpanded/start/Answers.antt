@@ -7,16 +7,15 @@ use Rattle.access.specs.Trees.{AcceptedFile}
 use Rattle.access.proofs.Using.{counted-file, refused-file}
 use Rattle.runner.proofs.unexpanded.start.Goals as goal
 
-accepted : (c : goal.In-Steps) → AcceptedFile c.args.file.now
-accepted c = (counted-file _ _ (sym c.in-Steps.is ∙ c.read.ensures)).0
-
 pub returns-in-Steps : goal.returns-in-Steps
 unfolding start on_file
-returns-in-Steps c = let a = accepted c.before in rw a.is (c.start_accepted.ensures a)
+returns-in-Steps c =
+    let a = (counted-file _ _ (sym c.in-Steps.is ∙ c.read.ensures)).0 in
+    rw a.is (c.start_accepted.ensures a)
 
 pub returns-in-Refused : goal.returns-in-Refused
 unfolding start on_file
 returns-in-Refused c = rw (refused-file _ _ (sym c.in-Refused.is ∙ c.read.ensures)) c.refused_start.ensures
 
 pub start_accepted-requires : goal.start_accepted-requires
-start_accepted-requires c = accepted c
+start_accepted-requires c = (counted-file _ _ (sym c.in-Steps.is ∙ c.read.ensures)).0
