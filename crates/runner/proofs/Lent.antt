@@ -46,6 +46,10 @@ use Rattle.runner.proofs.Runs.{no-and, call-elsewhere, call-run}
 abbrev pub file-of : {file words : List ℕ} → Expanded file words → AcceptedFile file
 file-of a = record { tree = a.tree; is = a.is }
 
+-- words that were found to begin with its expansion
+abbrev pub beginning : {file words : List ℕ} (a : AcceptedFile file) {b : Bool} → b ≡ begins_with words (table (expansion a.tree)) → b ≡ true → Expanded file words
+beginning a h e = record { tree = a.tree; is = a.is; begins = sym h ∙ e }
+
 -- what is known of it does not depend on how the file was accepted
 pub fields-of : {file words nodes : List ℕ} {f : Fields} (a : Expanded file words) → Walks file words nodes f → f ≡ a.tree.fields
 fields-of a w = w.fields ∙ ap (λ (t : Agreement). t.fields) (same-accepted (file-of w.expanded) (file-of a))
@@ -129,21 +133,19 @@ module _ (file : List ℕ) (a : Agreement) (s : State) (k : Call) where
     pub steps-run : (known && is_none entry) ≡ false → called s (settled setting (walk_by_in file a setting entry (entered k s))) ≡ call_in file a s k
     steps-run u = call-run is s k _ runs steps-call p u refl
 
--- what is found of a name, by its tag: no step, or not that the name is elsewhere
+-- what is found of a name: no step, or not that the name is elsewhere
 module _ (steps : List Step) (name state : ℕ) where
-  pub no_step : (e : Entry) → OneOf (0 ∷ 1 ∷ []) (tag_of Entries.the_type e) → EntryFound steps name state e → entry_of steps name state ≡ none
+  pub no_step : (e : Entry) → ((i : ℕ) → e ≡ At i → ⊥) → EntryFound steps name state e → entry_of steps name state ≡ none
   no_step Unknown h x = x.1
   no_step Elsewhere h x = x.1
-  no_step (At i) (inl h) x = absurd (omega arith)
-  no_step (At i) (inr h) x = absurd (omega arith)
+  no_step (At i) h x = absurd (h i refl)
 
   pub not-elsewhere :
-      (e : Entry) → OneOf (0 ∷ 2 ∷ []) (tag_of Entries.the_type e) → EntryFound steps name state e → (entry_known steps name && is_none (entry_of steps name state)) ≡ false
+      (e : Entry) → (e ≡ Elsewhere → ⊥) → EntryFound steps name state e → (entry_known steps name && is_none (entry_of steps name state)) ≡ false
   unfolding is_none
   not-elsewhere Unknown h x = rw x.0
   not-elsewhere (At i) h x = rw x.2 (no-and (entry_known steps name))
-  not-elsewhere Elsewhere (inl h) x = absurd (omega arith)
-  not-elsewhere Elsewhere (inr h) x = absurd (omega arith)
+  not-elsewhere Elsewhere h x = absurd (h refl)
 
 -- the run from what was found; where it is no step, that from the fallback's entry
 module _ (file : List ℕ) (a : Agreement) (c : Setting) {o : Option Step} {m n : Machine} {r : Reached} where

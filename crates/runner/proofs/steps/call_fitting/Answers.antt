@@ -1,73 +1,62 @@
 -- `call_fitting` meets its contract, by the tests 9 and 21; that the record fits answers the test 20.
 use mathlib.Core.Path.{◌≡◌, refl, sym, ◌∙◌}
-use mathlib.Core.Bool.{false}
-use mathlib.Core.List.{[]}
+use mathlib.Core.Bool.{true, false}
+use mathlib.Core.List.{List, []}
 use mathlib.Core.Option.{Option, some}
-use Prim.Native.Nat.{ℕ}
+use Prim.Native.Nat.{ℕ, ◌<◌}
 use native.Mathlib.Omega.{arith}
 use lib.Dec.{leb}
-use borrow.Author.Rules.{rules}
+use lib.ListN.{get_or}
 use borrow.Author.Tests.{leb-false, lt-ltb, le-ltb}
+use Rattle.rules.specs.declared.Call.{Call}
+use Rattle.rules.specs.declared.Fields.{Fields}
 use Rattle.rules.specs.declared.State.{State}
 use Rattle.rules.specs.Basics.{first_of}
 use Rattle.rules.specs.Accepting.{refusal}
 use Rattle.rules.specs.Calling.{call_tests, refused_call}
-use Rattle.machine.specs.Calls.{state_of}
+use Rattle.machine.specs.Calls.{state_of, Fits}
 use Rattle.walker.specs.Tables.{Expanded}
-use Rattle.runner.specs.Tables.{call_in}
+use Rattle.runner.specs.Tables.{Walks, call_in}
 use Rattle.runner.proofs.Runs.{accounts-few, call-refused}
 use Rattle.runner.proofs.Lent.{file-of, fields-of, steps-call}
-use Rattle.runner.proofs.steps.call_fitting.Lts as lts
-use Rattle.runner.proofs.steps.call_fitting.Tie as tie
-use Rattle.runner.proofs.steps.call_fitting.Reads as own
 use Rattle.runner.proofs.steps.call_fitting.Goals as goal
 
--- the record that stands in the lent arrays, and what its tests make of a call
-abbrev kept : lts.Start tie.the-claims own.Pre own.Post → State
-kept s = let g = s.args in state_of g.state g.own g.variables.now g.balances.now
-
-abbrev first : lts.Start tie.the-claims own.Pre own.Post → Option ℕ
-first s = first_of (call_tests s.args.p.fields (kept s) s.args.k [] false)
-
 refused :
-    (s : lts.Start tie.the-claims own.Pre own.Post) (a : Expanded s.args.file.now s.args.words.now) (n : ℕ) → first s ≡ some n →
-    refused_call (refusal n) 0 (kept s) ≡ call_in s.args.file.now a.tree (kept s) s.args.k
-refused s a = call-refused (fields-of a s.requires.0.walks) (kept s) s.args.k _ _ (steps-call _ a.tree (kept s) s.args.k)
+    {file words nodes : List ℕ} {f : Fields} (w : Walks file words nodes f) (s : State) (k : Call) (a : Expanded file words) (n : ℕ) →
+    first_of (call_tests f s k [] false) ≡ some n → refused_call (refusal n) 0 s ≡ call_in file a.tree s k
+refused w s k a = call-refused (fields-of a w) s k _ _ (steps-call _ a.tree s k)
 
-abbrev start : lts.After-is-unknown-sender tie.the-claims own.Pre own.Post → lts.Start tie.the-claims own.Pre own.Post
-start c = c.before.before.before.before
-
--- no account
-unknown : (c : goal.Then-is_unknown_sender) → first (start c.before) ≡ some 9
+-- no account; an account that lacks the coins
+unknown : (f : Fields) (s : State) (k : Call) → leb f.accounts k.sender ≡ true → first_of (call_tests f s k [] false) ≡ some 9
 unfolding first_of call_tests
-unknown c = rw (sym c.is_unknown_sender.ensures ∙ c.if-is_unknown_sender.true)
+unknown f s k e = rw e
+
+lacks :
+    (f : Fields) (s : State) (k : Call) → leb f.accounts k.sender ≡ false → Fits f s → get_or s.balances k.sender 0 < k.coins →
+    first_of (call_tests f s k [] false) ≡ some 21
+unfolding first_of call_tests
+lacks f s k e h l = rw (e, h.fits, lt-ltb _ _ l)
 
 pub returns-then-is_unknown_sender : goal.returns-then-is_unknown_sender
-returns-then-is_unknown_sender c = λ a. let i = c.before in c.unmoved.ensures _ _ ∙ refused (start i.before) a 9 (unknown i)
-
--- an account
-account : (c : lts.Else1 tie.the-claims own.Pre own.Post) → let g = (start c.before).args in leb g.p.fields.accounts g.k.sender ≡ false
-account c = sym c.is_unknown_sender.ensures ∙ c.if-is_unknown_sender.false
+returns-then-is_unknown_sender c = λ a.
+    let s = state_of c.args.state c.args.own c.args.variables.now c.args.balances.now in
+    c.unmoved.ensures _ _
+    ∙ refused c.requires.0.walks s c.args.k a 9 (unknown _ s c.args.k (sym c.is_unknown_sender.ensures ∙ c.if-is_unknown_sender.true))
 
 pub bounds-balances-i : goal.bounds-balances-i
 bounds-balances-i c =
-    let s = start c.before.before in
-    let w = s.requires.0.walks in
-    omega (arith, leb-false s.args.p.fields.accounts s.args.k.sender (account c.before), accounts-few (file-of w.expanded) w.fields)
-
--- that lacks the coins
-lacks : (c : goal.Then-balances-i) → first (start c.before.before.before.before.before) ≡ some 21
-unfolding first_of call_tests
-lacks c =
-    let e = c.before.before.before.before in
-    rw (account e, (start e.before).requires.1.fits, lt-ltb _ _ c.if-balances-i.true)
+    let w = c.requires.0.walks in
+    omega
+    (arith, leb-false _ c.args.k.sender (sym c.is_unknown_sender.ensures ∙ c.if-is_unknown_sender.false), accounts-few (file-of w.expanded) w.fields)
 
 pub returns-then-balances-i : goal.returns-then-balances-i
-returns-then-balances-i c = λ a. let i = c.before in c.unmoved-then-balances-i.ensures _ _ ∙ refused (start i.before.before.before.before.before) a 21 (lacks i)
+returns-then-balances-i c = λ a.
+    let s = state_of c.args.state c.args.own c.args.variables.now c.args.balances.now in
+    let account = sym c.is_unknown_sender.ensures ∙ c.if-is_unknown_sender.false in
+    c.unmoved-then-balances-i.ensures _ _
+    ∙ refused c.requires.0.walks s c.args.k a 21 (lacks _ s c.args.k account c.requires.1 c.if-balances-i.true)
 
 pub call_passed-requires : goal.call_passed-requires
 call_passed-requires c =
-    let i = c in
-    let e = i.before.before.before.before in
-    let s = start e.before in
-    (s.requires.0, record { account = account e; fits = s.requires.1.fits; paid = le-ltb _ _ i.if-balances-i.false }, refl, refl)
+    let account = sym c.is_unknown_sender.ensures ∙ c.if-is_unknown_sender.false in
+    (c.requires.0, record { account = account; fits = c.requires.1.fits; paid = le-ltb _ _ c.if-balances-i.false }, refl, refl)
