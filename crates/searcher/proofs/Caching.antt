@@ -107,13 +107,7 @@ module _ (left more : ℕ) (run other : Run) (f : Shaped run.state) (h : Shaped 
       let t = same-status run.status other.status s in
       (l, λ i. record { state = r i; status = t i })
 
--- ---- an entry is compared and written word by word
-
--- one word more: it differed, or it is the key's and nothing changed
-pub compared : {T E : Type 0} (P : ℕ → Type 0) (k : ℕ) (same after : Bool) → (same ≡ true → (j : ℕ) → j < k → P j)
-    → (T × (after ≡ false)) ⊎ (E × (after ≡ same)) → (E → P k) → after ≡ true → (j : ℕ) → j < k + 1 → P j
-compared P k same after before (inl (t, e)) here s = absurd (let z : ◌≡◌ {A = Bool} false true = sym e ∙ s in let w : ◌≡◌ {A = ℕ} 0 1 = cc in omega arith)
-compared P k same after before (inr (x, e)) here s = below_more _ _ (before (sym e ∙ s)) (here x)
+-- ---- an entry is written word by word
 
 -- the number, and then the key
 pub written : (m after words : List ℕ) (i n : ℕ) → entry_words * i + entry_words ≤ length m

@@ -6,22 +6,21 @@ use lib.ListN.{replicate}
 use Rattle.searcher.specs.declared.Plan.{Plan}
 use Rattle.searcher.specs.Caching.{entry_words, pairs, Sound}
 use Rattle.searcher.proofs.Caching.{empty-sound}
-use Rattle.searcher.proofs.search.search.Statement.{statement}
-use Rattle.searcher.proofs.search.search.Tie as tie
+use Rattle.searcher.proofs.search.search.Goals as goal
 
 -- what `by_length` asks, with a cache of n words
 begun : {A B C : Type 0} {file words nodes table calls : List ℕ} {plan : Plan} (n : ℕ) → A × B × C
     → A × B × C × Sound file words nodes table calls plan (replicate n 0)
 begun n p = (p.0, p.1, p.2, empty-sound _ _ _ _ _ _ n)
 
-pub search-spec : {M : Type 1} → statement M
-search-spec =
-    tie.close
-    (tie.spec
-    (λ c κs. search rules)
-    (λ c. search rules)
-    (λ c κs. begun (entry_words * (2 * pairs)) c.before.before.before.before.before.requires)
-    (λ c. c.before.by_length.ensures)
-    (λ c. search rules)
-    (λ c κs. begun 1 c.before.before.before.before.before.requires)
-    (λ c. c.before.by-length2.ensures))
+pub by_length-requires : goal.by_length-requires
+by_length-requires c = begun (entry_words * (2 * pairs)) c.requires
+
+pub returns-then-is_kept : goal.returns-then-is_kept
+returns-then-is_kept c = c.by_length.ensures
+
+pub by_length-requires-2 : goal.by_length-requires-2
+by_length-requires-2 c = begun 1 c.requires
+
+pub returns : goal.returns
+returns c = c.by_length-2.ensures

@@ -1,0 +1,14 @@
+-- `verdict` meets its contract: what reading answers says whether the file is accepted.
+use mathlib.Core.Path.{sym, ◌∙◌}
+use borrow.Author.Rules.{rules}
+use Rattle.rules.specs.Accepting.{on_file}
+use Rattle.rules.specs.Judging.{verdict, refused_verdict}
+use Rattle.access.proofs.Using.{counted-file, refused-file}
+use Rattle.searcher.proofs.verdicts.verdict.Goals as goal
+
+pub verdict_accepted-requires : goal.verdict_accepted-requires
+verdict_accepted-requires c = counted-file _ _ (sym c.in-Steps.is ∙ c.read.ensures)
+
+pub returns-in-Refused : goal.returns-in-Refused
+unfolding verdict on_file refused_verdict
+returns-in-Refused c = rw (refused-file _ _ (sym c.in-Refused.is ∙ c.read.ensures), c.unshown.ensures)
