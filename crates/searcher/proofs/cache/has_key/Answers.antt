@@ -6,12 +6,10 @@ use Rattle.searcher.proofs.cache.has_key.Goals as goal
 use Rattle.searcher.proofs.cache.has_key.Goals.{then-cache-at, else-cache-at}
 
 pub loop-k-preserved : goal.loop-k-preserved
-loop-k-preserved c =
-    let h = c in
-    let a = h.args in (
-      omega arith,
-      λ s. elim c.if-cache-at.branch [ then-cache-at w ↦ absurd cc | else-cache-at w ↦ below_more _ _ (c.loop-k.invariant.1 (sym w.same-is ∙ s)) w.if-cache-at.false ],
-    )
+loop-k-preserved c = (
+  omega arith,
+  λ s. elim c.if-cache-at.branch [ then-cache-at w ↦ absurd cc | else-cache-at w ↦ below_more _ _ (c.loop-k.invariant.1 (sym w.same-is ∙ s)) w.if-cache-at.false ],
+)
 
 pub loop-k-init : goal.loop-k-init
 loop-k-init c = (omega arith, λ s j less. absurd (omega arith))

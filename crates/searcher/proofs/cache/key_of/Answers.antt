@@ -11,16 +11,11 @@ loop-i-init c = (omega arith, copied_none _ _ _)
 
 pub loop-i-preserved : goal.loop-i-preserved
 loop-i-preserved c =
-    let h = c in
-    (omega arith, copied_next _ h.loop-i.key _ 2 h.loop-i.i (omega (arith, c.loop-i-test.true)) h.loop-i.invariant.1)
+    (omega arith, copied_next _ c.loop-i.key _ 2 c.loop-i.i (omega (arith, c.loop-i-test.true)) c.loop-i.invariant.1)
 
 pub returns : goal.returns
 returns c =
-    let h = c in
-    let t = h in
-    let w = t in
-    let s = w in
-    let a = s.args in
-    let all : h.loop-i.i ≡ record_words = omega (arith, c.loop-i-test.false, h.loop-i.invariant.0) in
-    key-is a.left t.standing.result (run_of a.position a.variables.now a.balances.now) w.state_words-words.result _ h.loop-i.key s.requires.1
-    refl refl refl t.standing.ensures w.state_words-words.ensures (rw all at h.loop-i.invariant.1)
+    let a = c.args in
+    let all : c.loop-i.i ≡ record_words = omega (arith, c.loop-i-test.false, c.loop-i.invariant.0) in
+    key-is a.left c.standing.result (run_of a.position a.variables.now a.balances.now) c.state_words-words.result _ c.loop-i.key c.requires.1
+    refl refl refl c.standing.ensures c.state_words-words.ensures (rw all at c.loop-i.invariant.1)

@@ -14,9 +14,7 @@ with_call-next-requires c = omega (arith, few-rows c.requires)
 
 pub loop-i-preserved : goal.loop-i-preserved
 loop-i-preserved c =
-    let r = c in
-    let h = r in
-    (omega arith, λ a. laid_more h.loop-i.calls c.with_call-next.result a.tree.rows h.loop-i.i r.row.result (r.row.ensures a) c.with_call-next.ensures (h.loop-i.invariant.1 a))
+    (omega arith, λ a. laid_more c.loop-i.calls c.with_call-next.result a.tree.rows c.loop-i.i c.row.result (c.row.ensures a) c.with_call-next.ensures (c.loop-i.invariant.1 a))
 
 pub returns : goal.returns
 returns c = λ a i less. c.loop-i.invariant.1 a i (omega arith)

@@ -1,6 +1,7 @@
 -- By the rule's type.
 use mathlib.Core.Path.{◌≡◌}
 use mathlib.Core.List.{◌∷◌}
+use native.Mathlib.Omega.{arith}
 use Rattle.rules.specs.Syntax.{Expr}
 use Rattle.machine.specs.Calls.{state_of}
 use Rattle.searcher.specs.Standing.{ExpressionAt, breaks_after}
@@ -9,10 +10,9 @@ use Rattle.searcher.proofs.standing.after.Goals as goal
 
 pub after_always-requires : goal.after_always-requires
 after_always-requires c =
-    let s = c in
-    let f = s.args.file.now in
-    let j = s.args.judge in
-    type-one f j (λ _. (e : Expr) × ExpressionAt f j.at e) s.requires.0 s.requires.1 c.in-1.is (λ e h. (e, h))
+    let f = c.args.file.now in
+    let j = c.args.judge in
+    type-one f j (λ _. (e : Expr) × ExpressionAt f j.at e) c.requires.0 c.requires.1 c.in-1.is (λ e h. (e, h))
 
 pub returns-in-1 : goal.returns-in-1
 returns-in-1 c = λ rule h bs es.
@@ -36,4 +36,4 @@ returns-in_default c = λ rule h bs es.
     let s = state_of a.state a.own a.variables.now bs in
     type-three a.file.now a.judge
     (λ rule. breaks_after rule c.after_only_after.result es ≡ breaks_after rule a.status (record { name = a.name; state = s } ∷ es))
-    rule h c.in_default.in_default-own.rest.0.1 c.in_default.in_default-own.rest.1 (c.after_only_after.ensures s es)
+    rule h (λ k. omega arith) (λ k. omega arith) (c.after_only_after.ensures s es)

@@ -9,10 +9,9 @@ use Rattle.searcher.proofs.standing.at_first.Goals as goal
 
 pub is_violated-broken-requires : goal.is_violated-broken-requires
 is_violated-broken-requires c =
-    let s = c in
-    let f = s.args.file.now in
-    let j = s.args.judge in
-    type-one f j (λ _. (e : Expr) × ExpressionAt f j.at e) s.requires.0 s.requires.1 c.if-judge-eq1.true (λ e h. (e, h))
+    let f = c.args.file.now in
+    let j = c.args.judge in
+    type-one f j (λ _. (e : Expr) × ExpressionAt f j.at e) c.requires.0 c.requires.1 c.if-judge-eq1.true (λ e h. (e, h))
 
 pub returns-then-judge-eq1 : goal.returns-then-judge-eq1
 returns-then-judge-eq1 c = λ rule h es.

@@ -8,23 +8,19 @@ use Rattle.searcher.proofs.standing.is_violated.Goals as goal
 
 pub evaluate-requires : goal.evaluate-requires
 evaluate-requires c =
-    let s = c in
-    let a = s.args in
-    (here a.file.now a.at s.requires.0 s.requires.1).0
+    let a = c.args in
+    (here a.file.now a.at c.requires.0 c.requires.1).0
 
 pub returns-in-Is : goal.returns-in-Is
 unfolding not_true
 returns-in-Is c = λ e h bs.
-    let x = c in
-    let v = x in
-    let a = v.args in
+    let a = c.args in
     let s = state_of a.state a.own a.variables.now bs in
-    violated-by a.file.now a.at s (Is x.in-Is.x) (λ g. sym x.in-Is.is ∙ v.evaluate.ensures g) e h
+    violated-by a.file.now a.at s (Is c.in-Is.x) (λ g. sym c.in-Is.is ∙ c.evaluate.ensures g) e h
 
 pub returns-in-Failed : goal.returns-in-Failed
 unfolding not_true
 returns-in-Failed c = λ e h bs.
-    let v = c in
-    let a = v.args in
+    let a = c.args in
     let s = state_of a.state a.own a.variables.now bs in
-    violated-by a.file.now a.at s Failed (λ g. sym c.in-Failed.is ∙ v.evaluate.ensures g) e h
+    violated-by a.file.now a.at s Failed (λ g. sym c.in-Failed.is ∙ c.evaluate.ensures g) e h
