@@ -1,8 +1,5 @@
 -- `agreement_expand` meets its contract.
 use mathlib.Core.Path.{ap, sym, ◌∙◌}
-use mathlib.Core.List.{List}
-use Prim.Native.Nat.{ℕ}
-use borrow.Author.Rules.{rules}
 use Rattle.rules.specs.declared.Counted.{Counted}
 use Rattle.rules.specs.Accepting.{Lent}
 use Rattle.rules.specs.Answers.{counted_numbers}
@@ -12,10 +9,16 @@ pub returns-in-Steps : goal.returns-in-Steps
 unfolding counted_numbers
 returns-in-Steps c =
     let e = c.expand.ensures in
-    (ap counted_numbers (sym c.in-Steps.is ∙ ap (λ (l : Lent Counted). l.answer-1) e), ap (λ (l : Lent Counted). l.words-1) e)
+    record {
+      answer_after = ap counted_numbers (sym c.in-Steps.is ∙ ap (λ (l : Lent Counted). l.answer) e);
+      words_after = ap (λ (l : Lent Counted). l.words) e;
+    }
 
 pub returns-in-Refused : goal.returns-in-Refused
 unfolding counted_numbers
 returns-in-Refused c =
     let e = c.expand.ensures in
-    (ap counted_numbers (sym c.in-Refused.is ∙ ap (λ (l : Lent Counted). l.answer-1) e), ap (λ (l : Lent Counted). l.words-1) e)
+    record {
+      answer_after = ap counted_numbers (sym c.in-Refused.is ∙ ap (λ (l : Lent Counted). l.answer) e);
+      words_after = ap (λ (l : Lent Counted). l.words) e;
+    }
