@@ -1,9 +1,7 @@
 -- `call_accepted` meets its contract, by the tests that come before the name is looked for.
-use mathlib.Core.Path.{◌≡◌, ◌∙◌}
+use mathlib.Core.Path.{◌∙◌}
 use native.Mathlib.Omega.{arith}
-use borrow.Author.Rules.{rules}
 use Rattle.machine.proofs.Calls.{first-passed, numbered-some, numbered-none}
-use Rattle.access.specs.Trees.{AcceptedFile}
 use Rattle.access.proofs.Using.{tree_of}
 use Rattle.runner.proofs.Runs.{accounts-few, call-refused, tree-call}
 use Rattle.runner.proofs.accepted.call_accepted.Goals as goal

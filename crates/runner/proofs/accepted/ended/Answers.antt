@@ -1,6 +1,5 @@
 -- `ended` meets its contract: the outcome is that of the arrays as `called` leaves them.
 use mathlib.Core.Path.{◌∙◌}
-use borrow.Author.Rules.{rules}
 use Rattle.runner.proofs.accepted.ended.Goals as goal
 
 pub returns : goal.returns

@@ -1,6 +1,5 @@
 -- `run_transition` meets its contract: the guard ends the run, or the action follows it.
 use native.Mathlib.Omega.{arith}
-use borrow.Author.Rules.{rules}
 use Rattle.rules.specs.declared.Machine.{Machine}
 use Rattle.rules.specs.Running.{guarded}
 use Rattle.machine.specs.Flows.{Flow, machine_of, flow_in}

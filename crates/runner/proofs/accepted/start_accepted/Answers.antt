@@ -1,13 +1,9 @@
 -- `start_accepted` meets its contract: the initial action runs on the opening state.
-use mathlib.Core.Path.{◌≡◌, sym, subst, ◌∙◌}
+use mathlib.Core.Path.{sym, subst, ◌∙◌}
 use native.Mathlib.Omega.{arith}
-use lib.ListN.{length, replicate}
-use borrow.Author.Rules.{rules}
-use Rattle.rules.specs.declared.Machine.{Machine}
-use Rattle.rules.specs.Calling.{entered, total}
-use Rattle.machine.specs.Flows.{machine_of, Funded}
-use Rattle.machine.proofs.Calls.{Enters, enters-funded}
-use Rattle.access.specs.Trees.{AcceptedFile}
+use Rattle.rules.specs.Calling.{total}
+use Rattle.machine.specs.Flows.{Funded}
+use Rattle.machine.proofs.Calls.{enters-funded}
 use Rattle.access.proofs.Using.{ActionAt, initial-at, tree_of}
 use Rattle.runner.proofs.Runs.{standing, few-accounts, start-full, start-enters, start_is}
 use Rattle.runner.proofs.accepted.start_accepted.Goals as goal

@@ -1,6 +1,5 @@
 -- `agreement_call_expanded` meets its contract: the outcome, as numbers.
 use mathlib.Core.Path.{ap, ◌∙◌}
-use borrow.Author.Rules.{rules}
 use Rattle.rules.specs.declared.Call.{Call}
 use Rattle.rules.specs.declared.Outcome.{Outcome}
 use Rattle.rules.specs.declared.State.{State}
@@ -10,11 +9,10 @@ use Rattle.runner.proofs.interface.agreement_call_expanded.Goals as goal
 
 pub returns : goal.returns
 returns c =
-    let s = c in
-    let k : Call = record { name = s.args.name; sender = s.args.sender; coins = s.args.coins; arguments = s.args.arguments.now } in
+    let k : Call = record { name = c.args.name; sender = c.args.sender; coins = c.args.coins; arguments = c.args.arguments.now } in
     let e =
-    c.call_expanded-o.ensures
-    ∙ ap (λ (t : State). call_expanded s.args.file.now s.args.words.now t k) c.state_from.ensures in
+        c.call_expanded-o.ensures
+        ∙ ap (λ (t : State). call_expanded c.args.file.now c.args.words.now t k) c.state_from.ensures in
     record {
       state-is = c.state_words.ensures ∙ ap (λ (o : Outcome). state_numbers o.state) e;
       answer-is = c.answer_words.ensures ∙ ap (λ (o : Outcome). answer_numbers o.answer) e;

@@ -1,6 +1,5 @@
 -- `agreement_start_expanded` meets its contract: the outcome, as numbers.
 use mathlib.Core.Path.{ap, ◌∙◌}
-use borrow.Author.Rules.{rules}
 use Rattle.rules.specs.declared.Outcome.{Outcome}
 use Rattle.rules.specs.Answers.{answer_numbers, state_numbers}
 use Rattle.runner.proofs.interface.agreement_start_expanded.Goals as goal

@@ -1,9 +1,7 @@
 -- `call` meets its contract: what reading answers says whether the file is accepted.
 use mathlib.Core.Path.{sym, ◌∙◌}
-use borrow.Author.Rules.{rules}
 use Rattle.rules.specs.Accepting.{on_file}
 use Rattle.rules.specs.Calling.{call}
-use Rattle.access.specs.Trees.{AcceptedFile}
 use Rattle.access.proofs.Using.{counted-file, refused-file}
 use Rattle.runner.proofs.unexpanded.call.Goals as goal
 
