@@ -1,5 +1,4 @@
 -- `counter` meets its contract: its bytes are the counter agreement's.
-use borrow.Author.Rules.{rules}
 use Rattle.rules.specs.Counter.{counter}
 use Rattle.counter.proofs.counter.Goals as goal
 

@@ -1,5 +1,4 @@
 -- `limited` meets its contract: its bytes are the counter agreement's, with the limit 5.
-use borrow.Author.Rules.{rules}
 use Rattle.rules.specs.Counter.{counter}
 use Rattle.counter.proofs.limited.Goals as goal
 

@@ -1,5 +1,4 @@
 -- `run` meets its contract, by the list of outcomes that the rules give.
-use borrow.Author.Rules.{rules}
 use Rattle.rules.specs.Calling.{calls_from, follow, run_list}
 use Rattle.counter.proofs.run.Goals as goal
 
