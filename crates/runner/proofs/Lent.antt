@@ -3,15 +3,11 @@
 use Rattle.std.specs.Prelude.{if◌then◌else◌}
 use Prim.Native.Nat.{ℕ, ◌+◌, ◌*◌, ◌≤◌, ◌<◌}
 use mathlib.Core.Path.{◌≡◌, refl, sym, ap, subst, ◌∙◌}
-use mathlib.Core.Logic.{inl, inr}
 use mathlib.Core.Bool.{Bool, true, false, ◌&&◌}
-use mathlib.Core.List.{List, [], ◌∷◌}
+use mathlib.Core.List.{List, []}
 use mathlib.Core.Option.{Option, none, some}
-use native.Mathlib.Omega.{arith}
 use lib.Dec.{eqb, leb}
 use lib.ListN.{length, get_or}
-use types.Run.{OneOf}
-use denote.Enum.Declared.{tag_of}
 use borrow.Author.Tests.{lt-ltb, le-ltb}
 use Rattle.rules.specs.declared.Call.{Call}
 use Rattle.rules.specs.declared.Fields.{Fields}
@@ -32,7 +28,6 @@ use Rattle.machine.specs.Calls.{state_of, Passed}
 use Rattle.machine.proofs.Calls.{sender-refused, lent-refused, Enters}
 use Rattle.access.specs.Trees.{AcceptedFile}
 use Rattle.access.proofs.Using.{same-accepted}
-use Rattle.walker.specs.contracts.Entry as Entries
 use Rattle.walker.specs.declared.Entry.{Entry}
 use Rattle.walker.specs.declared.Entry.TheVariants.{Unknown, Elsewhere, At}
 use Rattle.walker.specs.Tables.{Expanded, Tabled, Listed, Entered, EntryFound}

@@ -41,8 +41,7 @@ run_statement-p-requires c =
     let t = tree_of a in
     let full = (state-lengths c.args.s _ c.well_formed.1.1.0).1 in
     let few = few-accounts a (c.requires.1 a) c.frame_of-frame.ensures in
-    let e = call_enters a (c.requires.1 a) c.requires.2 full in
-    (
+    let e = call_enters a (c.requires.1 a) c.requires.2 full in (
       (standing {tree = a.tree.fallback} (fallback-at (record { read = t; out = c.layout-l.ensures t }) t)).0,
       subst (Funded c.frame_of-frame.result.accounts) (sym (c.entered-n.ensures _ _)) (enters-funded e few full),
     )
@@ -66,8 +65,7 @@ run_transition-p-requires c =
     let t = tree_of a in
     let full = (state-lengths c.args.s _ c.well_formed.1.1.0).1 in
     let few = few-accounts a (c.requires.1 a) c.frame_of-frame.ensures in
-    let e = call_enters a (c.requires.1 a) c.requires.2 full in
-    (
+    let e = call_enters a (c.requires.1 a) c.requires.2 full in (
       (moves (find_at t _ _ _ (sym c.in-At.is ∙ c.find_transition.ensures t))).0,
       subst (Funded c.frame_of-frame.result.accounts) (sym (c.entered-n.ensures _ _)) (enters-funded e few full),
     )

@@ -39,8 +39,7 @@ run_statement-p-requires c =
     let f = c.fields-f.ensures t in
     let few = few-accounts a f c.frame_of-frame.ensures in
     let x : ActionAt c.args.file.now c.layout-l.result.initial a.tree.initial = initial-at (record { read = t; out = c.layout-l.ensures t }) t in
-    let e = start-enters a f c.no_call-k.ensures c.opening_state-s.ensures in
-    (
+    let e = start-enters a f c.no_call-k.ensures c.opening_state-s.ensures in (
       (standing x).0,
       subst (Funded c.frame_of-frame.result.accounts) (sym (c.entered-n.ensures _ _)) (enters-funded e few (start-full a f c.opening_state-s.ensures)),
     )

@@ -1,6 +1,5 @@
 -- `start_expanded` meets its contract: what reading answers says whether the file is accepted.
 use mathlib.Core.Path.{sym, ◌∙◌}
-use borrow.Author.Rules.{rules}
 use Rattle.rules.specs.Accepting.{on_file}
 use Rattle.rules.specs.Stepping.{start_expanded}
 use Rattle.access.proofs.Using.{counted-file, refused-file}

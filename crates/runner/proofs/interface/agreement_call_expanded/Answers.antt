@@ -11,8 +11,8 @@ pub returns : goal.returns
 returns c =
     let k : Call = record { name = c.args.name; sender = c.args.sender; coins = c.args.coins; arguments = c.args.arguments.now } in
     let e =
-        c.call_expanded-o.ensures
-        ∙ ap (λ (t : State). call_expanded c.args.file.now c.args.words.now t k) c.state_from.ensures in
+    c.call_expanded-o.ensures
+    ∙ ap (λ (t : State). call_expanded c.args.file.now c.args.words.now t k) c.state_from.ensures in
     record {
       state-is = c.state_words.ensures ∙ ap (λ (o : Outcome). state_numbers o.state) e;
       answer-is = c.answer_words.ensures ∙ ap (λ (o : Outcome). answer_numbers o.answer) e;

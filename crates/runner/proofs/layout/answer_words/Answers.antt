@@ -1,5 +1,4 @@
 -- By the answer.
-use borrow.Author.Rules.{rules}
 use Rattle.rules.specs.Answers.{answer_numbers}
 use Rattle.runner.proofs.layout.answer_words.Goals as goal
 

@@ -1,5 +1,4 @@
 -- By what was returned.
-use borrow.Author.Rules.{rules}
 use Rattle.rules.specs.Answers.{answer_numbers, value_numbers}
 use Rattle.runner.proofs.layout.completed_words.Goals as goal
 

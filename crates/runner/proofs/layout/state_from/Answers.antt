@@ -1,5 +1,4 @@
 -- Entry by entry.
-use borrow.Author.Rules.{rules}
 use borrow.Kind.Array.{e_int, good_length}
 use mir.Syntax.{w32}
 use Rattle.runner.proofs.Numbers.{state-from-is}

@@ -1,5 +1,4 @@
 -- Entry by entry.
-use borrow.Author.Rules.{rules}
 use Rattle.machine.proofs.Lengths.{state-lengths}
 use Rattle.runner.proofs.Numbers.{state-words-is}
 use Rattle.runner.proofs.layout.state_words.Goals as goal

@@ -1,7 +1,6 @@
 -- `call_prepared` meets its contract, by the tests that come before the name is looked for.
 use mathlib.Core.Path.{refl, ◌∙◌}
 use native.Mathlib.Omega.{arith}
-use borrow.Author.Rules.{rules}
 use Rattle.machine.proofs.Calls.{first-passed, numbered-some, numbered-none}
 use Rattle.runner.proofs.Runs.{accounts-few, call-refused}
 use Rattle.runner.proofs.Lent.{file-of, fields-of, steps-call}

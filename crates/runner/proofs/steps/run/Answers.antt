@@ -47,7 +47,7 @@ enter-requires c =
     let x = subst (EntryFound (expansion w.expanded.tree) _ _) c.in-At.is (c.requires.4 w.expanded) in (
       record { walkable = walkable w; step = x.0; entry = x.1 },
       funded w c.args.s c.args.k c.requires.1 c.requires.3 c.told-balances refl c.frame_of-frame.ensures
-      (begins c.args.s c.args.k c.requires.2 c.requires.3 (c.entered-n.ensures _ _)),
+          (begins c.args.s c.args.k c.requires.2 c.requires.3 (c.entered-n.ensures _ _)),
     )
 
 pub walk-requires : goal.walk-requires
@@ -55,7 +55,7 @@ walk-requires c =
     let w = c.requires.0 in (
       walkable w,
       funded w c.args.s c.args.k c.requires.1 c.requires.3 c.told-balances refl c.frame_of-frame.ensures
-      (begins c.args.s c.args.k c.requires.2 c.requires.3 (c.entered-n.ensures _ _)),
+          (begins c.args.s c.args.k c.requires.2 c.requires.3 (c.entered-n.ensures _ _)),
     )
 
 pub returns-in-At : goal.returns-in-At

@@ -1,6 +1,5 @@
 -- `start_prepared` meets its contract: the run from the initial action's entry, on the opening state.
-use mathlib.Core.Path.{refl, sym, ap, subst, ◌∙◌}
-use lib.ListN.{length}
+use mathlib.Core.Path.{refl, sym, subst, ◌∙◌}
 use Rattle.rules.specs.Calling.{started}
 use Rattle.machine.specs.Flows.{Funded}
 use Rattle.machine.proofs.Calls.{enters-funded}
