@@ -10,6 +10,6 @@ pub returns : goal.returns
 returns c =
     let e = c.verdict-j.ensures in
     record {
-      words_are = ap (λ (l : Lent Judged). l.words-1) e;
+      words_are = ap (λ (l : Lent Judged). l.words) e;
       answer-is = c.judged_words.ensures ∙ ap (λ (l : Lent Judged). judged_numbers l.answer) e;
     }

@@ -1,5 +1,4 @@
 -- The verdict's numbers, then the rows.
-use borrow.Author.Rules.{rules}
 use Rattle.searcher.proofs.Numbers.{judged-is, judged-rows}
 use Rattle.searcher.proofs.interface.judged_words.Goals as goal
 
