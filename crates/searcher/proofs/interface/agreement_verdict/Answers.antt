@@ -1,6 +1,5 @@
 -- `agreement_verdict` meets its contract: the verdict, as numbers.
 use mathlib.Core.Path.{ap, ◌∙◌}
-use borrow.Author.Rules.{rules}
 use Rattle.rules.specs.declared.Judged.{Judged}
 use Rattle.rules.specs.Accepting.{Lent}
 use Rattle.rules.specs.Answers.{judged_numbers}
