@@ -18,9 +18,6 @@ use borrow.Author.Tests.{le-leb, lt-leb, leb-true}
 use lib.Dec.{leb, leb-zero, leb-suc-zero, leb-suc-suc}
 use lib.ListN.{length, take}
 use lib.Seq.{take_all}
-use types.Run.{OneOf}
-use denote.Enum.Declared.{tag_of}
-use Rattle.rules.specs.contracts.Verdict as Verdicts
 use Rattle.rules.specs.declared.Judged.{Judged}
 use Rattle.rules.specs.declared.Verdict.{Verdict}
 use Rattle.rules.specs.declared.Verdict.TheVariants.{Broken, Held}
@@ -129,7 +126,11 @@ each_none : (F : ℕ → List (List ℕ)) (i e : ℕ) → e ≤ i → each F i (
 unfolding each
 each_none F i e h = let d : e - i ≡ 0 = omega arith in rw d
 
-pub lists_of-each : (k left : ℕ) → (left ≡ 0 → ⊥) → lists_of k left ≡ each (λ i. map (λ l. i ∷ l) (lists_of k (left - 1))) 0 (k - 0)
+-- the lists that begin with a row and have m more
+abbrev pub behind : (count m i : ℕ) → List (List ℕ)
+behind count m i = map (λ l. i ∷ l) (lists_of count m)
+
+pub lists_of-each : (k left : ℕ) → (left ≡ 0 → ⊥) → lists_of k left ≡ each (behind k (left - 1)) 0 (k - 0)
 unfolding lists_of
 lists_of-each k left h =
     let d : left ≡ suc (left - 1) = omega arith in
@@ -204,24 +205,6 @@ whole bound p k depth =
     let z : suc depth - 0 ≡ suc depth = omega arith in
     let b : bound - 0 ≡ bound = omega arith in
     rw (z, b) (sym (continued-none (ruled_on bound p (each (lists_of k) 0 (suc depth)))))
-
--- a tag that is not held's
-pub not-held : (v : Verdict) → OneOf (0 ∷ 2 ∷ 3 ∷ []) (tag_of Verdicts.the_type v) → (m : ℕ) → v ≡ Held m → ⊥
-not-held v h m e = go (subst (λ (v : Verdict). OneOf (0 ∷ 2 ∷ 3 ∷ []) (tag_of Verdicts.the_type v)) e h)
-  where
-    go : OneOf (0 ∷ 2 ∷ 3 ∷ []) 1 → ⊥
-    go (inl e) = omega arith
-    go (inr (inl e)) = omega arith
-    go (inr (inr e)) = omega arith
-
--- a tag that is not broken's
-pub not-broken : (v : Verdict) → OneOf (1 ∷ 2 ∷ 3 ∷ []) (tag_of Verdicts.the_type v) → (i j : ℕ) → v ≡ Broken i j → ⊥
-not-broken v h i j e = go (subst (λ (v : Verdict). OneOf (1 ∷ 2 ∷ 3 ∷ []) (tag_of Verdicts.the_type v)) e h)
-  where
-    go : OneOf (1 ∷ 2 ∷ 3 ∷ []) 0 → ⊥
-    go (inl e) = omega arith
-    go (inr (inl e)) = omega arith
-    go (inr (inr e)) = omega arith
 
 -- ---- the end of a list: the one list that is left is empty
 

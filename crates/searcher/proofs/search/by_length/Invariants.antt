@@ -1,24 +1,18 @@
+-- The ruling on all the lists is that on those that are left.
 use Prim.Native.Nat.{suc, ◌-◌, ◌≤◌}
-use mathlib.Core.Path.{◌≡◌, refl, sym, ap, ◌∙◌}
+use mathlib.Core.Path.{◌≡◌}
 use mathlib.Core.List.{[]}
-use native.Mathlib.Omega.{arith}
-use borrow.Author.Rules.{rules}
-use lib.ListN
 use Rattle.rules.specs.Basics.{each}
 use Rattle.rules.specs.Lists.{lists_of, lists_to}
-use Rattle.rules.specs.Judging.{ruled_on, judged_of}
-use Rattle.searcher.specs.Searching.{Run, run_of, Planned, breaks_in}
+use Rattle.rules.specs.Judging.{ruled_on}
+use Rattle.searcher.specs.Searching.{run_of, Planned, breaks_in}
 use Rattle.searcher.specs.Caching.{Sound}
-use Rattle.searcher.proofs.Rulings.{onward, whole, not-held, goes, stops, done}
-use Rattle.searcher.proofs.search.by_length.Lts as lts
-use Rattle.searcher.proofs.search.by_length.Tie as tie
-use Rattle.searcher.proofs.search.by_length.Reads as own
+use Rattle.searcher.proofs.Rulings.{onward}
 use Rattle.searcher.proofs.search.by_length.Given as goal
 
 abbrev pub invariant-loop-length : goal.invariant-loop-length
 invariant-loop-length l =
     (l.length ≤ suc l.depth)
-    × (ListN.length l.cache ≡ ListN.length l.initial.cache)
     × Sound l.file l.words l.nodes l.entries l.calls l.plan l.cache
     × ((g : Planned l.file l.words l.nodes l.entries l.calls l.plan) →
     let p = breaks_in g (run_of l.position l.variables l.balances) in

@@ -1,6 +1,4 @@
 -- A broken list's row is stored at its place. Another verdict shows no rows.
-use borrow.Author.Rules.{rules}
-use Rattle.searcher.proofs.Rulings.{not-broken}
 use Rattle.searcher.proofs.Lists.{row-shown, row-unshown}
 use Rattle.searcher.proofs.search.with_row.Goals as goal
 
@@ -10,4 +8,4 @@ returns-in-Broken c = λ n v e.
     row-shown a.at a.row n a.f v e c.in-Broken.is
 
 pub returns-in_default : goal.returns-in_default
-returns-in_default c = λ n v e. let a = c.args in row-unshown a.at a.row n a.f v e (not-broken _ c.in_default.keys2)
+returns-in_default c = λ n v e. let a = c.args in row-unshown a.at a.row n a.f v e c.in_default.not-Broken
