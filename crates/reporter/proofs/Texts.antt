@@ -12,8 +12,12 @@ use borrow.Author.Tests.{lt-ltb, le-ltb}
 use native.Mathlib.Nat.{mod-eq_of_lt, pow-suc, mul_comm}
 use native.Mathlib.Omega.{arith}
 use Rattle.rules.specs.Basics.{joined, each, padded}
-use Rattle.rules.specs.Reporting.{digits, decimal, spaced}
-use Rattle.reporter.specs.declared.Page.{Page}
+use Rattle.rules.specs.Judging.{verdict}
+use Rattle.rules.specs.Reporting.{digits, decimal, spaced, rule_line}
+use Rattle.access.specs.declared.Layout.{Layout}
+use Rattle.access.specs.Trees.{TreeRead}
+use Rattle.access.specs.Places.{Laid}
+use Rattle.access.proofs.Using.{counts, tree-bounds}
 use Rattle.reporter.specs.Texts.{Put, page}
 
 -- two lists that are the same from one place on are so from a later one on
@@ -131,3 +135,12 @@ put-page {text} {after} {to} p =
 pub decimal-short : (n : ℕ) → length (decimal n) ≤ 10
 unfolding decimal
 decimal-short n = digits-short 10 n
+
+-- ---- the rules of an accepted file
+
+-- the line of a rule
+abbrev pub line : (file : List ℕ) (i : ℕ) → List ℕ
+line file i = rule_line i (verdict file i (replicate 5120 0)).answer
+
+pub few : {file : List ℕ} {l : Layout} → Laid file l → TreeRead file → l.rules.count ≤ 8
+few h t = omega (arith, (counts h t).2, (tree-bounds t).rules)
