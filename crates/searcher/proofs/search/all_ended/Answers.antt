@@ -1,7 +1,6 @@
 -- The bound was met before, or falls among the lists, or they are all tried.
 use mathlib.Core.Path.{sym, ap, ◌∙◌}
 use native.Mathlib.Omega.{arith}
-use borrow.Author.Rules.{rules}
 use Rattle.rules.specs.Judging.{judged_of}
 use Rattle.searcher.proofs.Rulings.{at-once-held, at-once-spent}
 use Rattle.searcher.proofs.search.all_ended.Goals as goal

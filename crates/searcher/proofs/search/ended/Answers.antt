@@ -2,7 +2,6 @@
 use Prim.Native.Nat.{◌+◌}
 use mathlib.Core.Path.{sym, ◌∙◌, ap}
 use lib.ListN.{replicate}
-use borrow.Author.Rules.{rules}
 use Rattle.rules.specs.Judging.{judged_of}
 use Rattle.searcher.proofs.Rulings.{end-spent, end-broken, end-held}
 use Rattle.searcher.proofs.Lists.{zeros-shown}
