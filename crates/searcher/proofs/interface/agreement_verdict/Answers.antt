@@ -1,6 +1,5 @@
 -- `agreement_verdict` meets its contract: the verdict, as numbers.
 use mathlib.Core.Path.{ap, ◌∙◌}
-use borrow.Author.Rules.{rules}
 use Rattle.rules.specs.declared.Judged.{Judged}
 use Rattle.rules.specs.Accepting.{Lent}
 use Rattle.rules.specs.Answers.{judged_numbers}
@@ -10,6 +9,6 @@ pub returns : goal.returns
 returns c =
     let e = c.verdict-j.ensures in
     record {
-      words_are = ap (λ (l : Lent Judged). l.words-1) e;
+      words_are = ap (λ (l : Lent Judged). l.words) e;
       answer-is = c.judged_words.ensures ∙ ap (λ (l : Lent Judged). judged_numbers l.answer) e;
     }

@@ -1,12 +1,9 @@
 -- The verdict's numbers, then the rows.
-use borrow.Author.Rules.{rules}
 use Rattle.searcher.proofs.Numbers.{judged-is, judged-rows}
 use Rattle.searcher.proofs.interface.judged_words.Goals as goal
 
 pub returns : goal.returns
 returns c =
-    let v = c in
-    let s = v in
     rw (
       c.wide-8.ensures,
       c.wide-7.ensures,
@@ -17,4 +14,4 @@ returns c =
       c.wide-2.ensures,
       c.wide.ensures,
     )
-    (judged-is s.args.j v.verdict_words-v.result (judged-rows s.args.j _ s.well_formed.0) v.verdict_words-v.ensures)
+    (judged-is c.args.j c.verdict_words-v.result (judged-rows c.args.j _ c.well_formed.0) c.verdict_words-v.ensures)

@@ -1,5 +1,4 @@
 -- By the verdict.
-use borrow.Author.Rules.{rules}
 use Rattle.rules.specs.Answers.{verdict_numbers}
 use Rattle.searcher.proofs.interface.verdict_words.Goals as goal
 

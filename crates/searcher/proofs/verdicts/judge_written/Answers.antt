@@ -1,6 +1,5 @@
 -- The index is made once, and then the rule is judged.
 use mathlib.Core.Path.{subst, sym}
-use borrow.Author.Rules.{rules}
 use Rattle.rules.specs.declared.Fields.{Fields}
 use Rattle.machine.specs.Calls.{Fits}
 use Rattle.runner.proofs.Lent.{file-of, tabled}
@@ -8,18 +7,17 @@ use Rattle.access.proofs.Using.{tree_of}
 use Rattle.searcher.proofs.verdicts.judge_written.Goals as goal
 
 pub index_nodes-nodes-requires : goal.index_nodes-nodes-requires
-index_nodes-nodes-requires c = let w = c.requires.0 in tabled w.expanded w.counts
+index_nodes-nodes-requires c = tabled c.requires.0.expanded c.requires.0.counts
 
 pub index_entries-e-requires : goal.index_entries-e-requires
-index_entries-e-requires c = let w = c.requires.0 in tabled w.expanded w.counts
+index_entries-e-requires c = tabled c.requires.0.expanded c.requires.0.counts
 
 pub fields-requires : goal.fields-requires
 fields-requires c = tree_of (file-of c.requires.0.expanded)
 
 pub judge_accepted-requires : goal.judge_accepted-requires
 judge_accepted-requires c =
-    let s = c in
-    let w = s.requires.0 in
+    let w = c.requires.0 in
     let a = file-of w.expanded in
     let f = c.fields.ensures (tree_of a) in (
       record {
@@ -30,7 +28,7 @@ judge_accepted-requires c =
         };
         entered = c.index_entries-e.ensures _ w.expanded w.counts;
       },
-      s.requires.1,
-      s.requires.2,
-      subst (λ (f : Fields). Fits f s.args.fresh) (sym f) (s.requires.3 a),
+      c.requires.1,
+      c.requires.2,
+      subst (λ (f : Fields). Fits f c.args.fresh) (sym f) (c.requires.3 a),
     )

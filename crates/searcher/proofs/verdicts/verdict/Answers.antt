@@ -1,6 +1,5 @@
 -- `verdict` meets its contract: what reading answers says whether the file is accepted.
 use mathlib.Core.Path.{sym, ◌∙◌}
-use borrow.Author.Rules.{rules}
 use Rattle.rules.specs.Accepting.{on_file}
 use Rattle.rules.specs.Judging.{verdict, refused_verdict}
 use Rattle.access.proofs.Using.{counted-file, refused-file}
