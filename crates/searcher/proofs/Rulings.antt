@@ -7,8 +7,7 @@
 -- Assumes nothing.
 use Rattle.std.specs.Prelude.{if◌then◌else◌}
 use Prim.Native.Nat.{ℕ, zero, suc, ◌+◌, ◌-◌, ◌<◌, ◌≤◌}
-use mathlib.Core.Path.{◌≡◌, refl, sym, ap, subst, fun_ext, ◌∙◌}
-use mathlib.Core.Logic.{inl, inr}
+use mathlib.Core.Path.{◌≡◌, refl, sym, ap, fun_ext, ◌∙◌}
 use mathlib.Core.Bool.{Bool, true, false}
 use mathlib.Core.List.{List, [], ◌∷◌, ◌++◌, map, append-nil, append_assoc}
 use native.Mathlib.Nat.{sub-zero}
@@ -19,8 +18,7 @@ use lib.Dec.{leb, leb-zero, leb-suc-zero, leb-suc-suc}
 use lib.ListN.{length, take}
 use lib.Seq.{take_all}
 use Rattle.rules.specs.declared.Judged.{Judged}
-use Rattle.rules.specs.declared.Verdict.{Verdict}
-use Rattle.rules.specs.declared.Verdict.TheVariants.{Broken, Held}
+use Rattle.rules.specs.declared.Verdict.TheVariants.{Held}
 use Rattle.rules.specs.Basics.{each}
 use Rattle.rules.specs.Lists.{lists_of, lists_to}
 use Rattle.rules.specs.Judging.{Ruling, broken, held, spent, First, at, nowhere, first, first_from, ruled_by, ruled_on, judged, judged_of}

@@ -49,12 +49,7 @@ fn judged_words(j: Judged) -> [u32; 13]
     ]
 }
 
-pub fn agreement_verdict(
-    file: &[u8],
-    rule: u32,
-    words: &mut [u32],
-    answer: &mut [u32; 13],
-)
+pub fn agreement_verdict(file: &[u8], rule: u32, words: &mut [u32], answer: &mut [u32; 13])
     ensures { VerdictHands file.now rule words.old words.new answer.new }
 {
     let j = verdict(file, rule, words);

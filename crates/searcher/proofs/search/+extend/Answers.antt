@@ -1,14 +1,11 @@
 -- Where the list has not ended and the cache does not know it, row by row; what held is kept.
-use Prim.Native.Nat.{ℕ, ◌+◌, ◌-◌, ◌≤◌}
-use mathlib.Core.Path.{◌≡◌, sym, ap, ◌∙◌}
+use Prim.Native.Nat.{◌-◌}
+use mathlib.Core.Path.{ap, ◌∙◌}
 use native.Mathlib.Omega.{arith}
 use lib.ListN.{replicate}
-use Rattle.rules.specs.declared.Fields.{Fields}
 use Rattle.rules.specs.Lists.{lists_of}
-use Rattle.rules.specs.Judging.{held, ruled_on, judged_of}
-use Rattle.machine.specs.Calls.{Fits}
-use Rattle.searcher.specs.Searching.{Run, run_of, breaks_in}
-use Rattle.searcher.specs.Caching.{Keyed}
+use Rattle.rules.specs.Judging.{ruled_on, judged_of}
+use Rattle.searcher.specs.Searching.{run_of, breaks_in}
 use Rattle.searcher.proofs.Rulings.{behind, lists_of-none, lists_of-each, held-alone, behind-row, goes, stops, done}
 use Rattle.searcher.proofs.Runs.{breaks-none}
 use Rattle.searcher.proofs.Caching.{found_none, stored-sound}
@@ -152,8 +149,6 @@ unfolding judged_of
 extend_each-returns-clause-value t c = λ g.
     let a = c.args in
     let l = c.loop-row in
+    let p = breaks_in g (run_of a.position a.variables.now a.balances.now) in
+    rw (l.invariant.2 g, done a.plan.bound p (replicate a.at 0) (behind a.plan.count (a.left - 1)) l.row a.plan.count l.n c.loop-row-test.false)
     c.unshown.ensures
-    ∙ ap judged_of
-    (sym (l.invariant.2 g
-    ∙ done a.plan.bound (breaks_in g (run_of a.position a.variables.now a.balances.now)) (replicate a.at 0) (behind a.plan.count (a.left - 1))
-    l.row a.plan.count l.n c.loop-row-test.false))

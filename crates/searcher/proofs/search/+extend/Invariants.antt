@@ -1,5 +1,5 @@
 -- The rows in turn: the ruling on all the lists is that on those that are left. A turn goes on with a row, a row with what is left.
-use Prim.Native.Nat.{ℕ, ◌+◌, ◌-◌, ◌*◌, ◌≤◌}
+use Prim.Native.Nat.{◌+◌, ◌-◌, ◌*◌, ◌≤◌}
 use mathlib.Core.Path.{◌≡◌}
 use lib.ListN.{replicate}
 use Rattle.rules.specs.Basics.{each}

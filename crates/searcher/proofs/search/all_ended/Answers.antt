@@ -1,7 +1,6 @@
 -- The bound was met before, or falls among the lists, or they are all tried.
 use mathlib.Core.Path.{sym, ap, ◌∙◌}
 use native.Mathlib.Omega.{arith}
-use borrow.Author.Rules.{rules}
 use Rattle.rules.specs.Judging.{judged_of}
 use Rattle.searcher.proofs.Rulings.{at-once-held, at-once-spent}
 use Rattle.searcher.proofs.search.all_ended.Goals as goal
@@ -9,10 +8,9 @@ use Rattle.searcher.proofs.search.all_ended.Goals as goal
 pub returns-then-bound-tried : goal.returns-then-bound-tried
 unfolding judged_of
 returns-then-bound-tried c = λ p ls l h.
-    let s = c in
-    let a = s.args in
+    let a = c.args in
     c.unshown.ensures
-    ∙ ap judged_of (sym (at-once-spent a.bound p l a.tried a.number ls h (omega (arith, s.requires)) a.tried (omega (arith, c.if-bound-tried.true))))
+    ∙ ap judged_of (sym (at-once-spent a.bound p l a.tried a.number ls h (omega (arith, c.requires)) a.tried (omega (arith, c.if-bound-tried.true))))
 
 pub returns-then-bound-tried-2 : goal.returns-then-bound-tried-2
 unfolding judged_of

@@ -1,6 +1,5 @@
 -- The loop over the lengths: the ruling on all the lists is that on those that are left.
 use Prim.Native.Nat.{suc}
-use mathlib.Core.Path.{sym, ap, ◌∙◌}
 use mathlib.Core.List.{[]}
 use native.Mathlib.Omega.{arith}
 use Rattle.rules.specs.Lists.{lists_of}
@@ -40,8 +39,6 @@ unfolding judged_of
 returns c = λ g.
     let a = c.args in
     let l = c.loop-length in
+    let p = breaks_in g (record { state = a.fresh; status = a.status }) in
+    rw (l.invariant.2 g, done a.plan.bound p [] (lists_of a.plan.count) l.length (suc a.depth) l.n (omega (arith, c.loop-length-test.false)))
     c.unshown.ensures
-    ∙ ap judged_of
-    (sym (l.invariant.2 g
-    ∙ done a.plan.bound (breaks_in g (record { state = a.fresh; status = a.status })) [] (lists_of a.plan.count) l.length (suc a.depth) l.n
-    (omega (arith, c.loop-length-test.false))))

@@ -14,7 +14,7 @@ use Rattle.runner.proofs.Lent.{fields-of, by-file}
 use Rattle.walker.specs.Tables.{Expanded}
 use Rattle.runner.specs.Tables.{call_in}
 use Rattle.searcher.specs.declared.Plan.{Plan}
-use Rattle.searcher.specs.Searching.{Planned, LaidDown, run_of, Run}
+use Rattle.searcher.specs.Searching.{Planned, LaidDown, run_of}
 use Rattle.searcher.proofs.Runs.{breaks-refused, breaks-completed, call_fits}
 use Rattle.searcher.proofs.search.called.Goals as goal
 

@@ -2,7 +2,6 @@
 use Prim.Native.Nat.{◌+◌}
 use mathlib.Core.Path.{sym, ◌∙◌, ap}
 use lib.ListN.{replicate}
-use borrow.Author.Rules.{rules}
 use Rattle.rules.specs.Judging.{judged_of}
 use Rattle.searcher.proofs.Rulings.{end-spent, end-broken, end-held}
 use Rattle.searcher.proofs.Lists.{zeros-shown}
@@ -16,16 +15,12 @@ returns-then-tried-bound c = λ p b.
 
 pub returns-then-broken : goal.returns-then-broken
 returns-then-broken c = λ p b.
-    let e = c in
-    let d = e in
-    let s = d in
-    let a = s.args in
-    c.unshown-then-broken.ensures ∙ zeros-shown (a.tried + 1) a.length s.requires
-    ∙ ap judged_of (sym (end-broken a.bound p (replicate a.length 0) a.tried d.if-tried-bound.false (sym b ∙ e.if-broken.true)))
+    let a = c.args in
+    c.unshown-then-broken.ensures ∙ zeros-shown (a.tried + 1) a.length c.requires
+    ∙ ap judged_of (sym (end-broken a.bound p (replicate a.length 0) a.tried c.if-tried-bound.false (sym b ∙ c.if-broken.true)))
 
 pub returns : goal.returns
 unfolding judged_of
 returns c = λ p b.
-    let d = c in
-    let a = d.args in
-    c.unshown-2.ensures ∙ ap judged_of (sym (end-held a.bound p (replicate a.length 0) a.tried d.if-tried-bound.false (sym b ∙ c.if-broken.false)))
+    let a = c.args in
+    c.unshown-2.ensures ∙ ap judged_of (sym (end-held a.bound p (replicate a.length 0) a.tried c.if-tried-bound.false (sym b ∙ c.if-broken.false)))

@@ -1,6 +1,5 @@
 -- By the answer's case.
 use mathlib.Core.Path.{sym, ap}
-use borrow.Author.Rules.{rules}
 use Rattle.rules.specs.Judging.{is_completed}
 use Rattle.searcher.proofs.search.is_completed.Goals as goal
 

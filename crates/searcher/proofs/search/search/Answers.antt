@@ -1,7 +1,6 @@
 -- In a cache of zeros every entry is empty.
 use Prim.Native.Nat.{ℕ, ◌*◌}
 use mathlib.Core.List.{List}
-use borrow.Author.Rules.{rules}
 use lib.ListN.{replicate}
 use Rattle.searcher.specs.declared.Plan.{Plan}
 use Rattle.searcher.specs.Caching.{entry_words, pairs, Sound}

@@ -5,7 +5,7 @@ use mathlib.Core.Path.{◌≡◌, refl, sym, ap, ◌∙◌}
 use mathlib.Core.List.{List}
 use mathlib.Core.Option.{some}
 use native.Mathlib.Omega.{arith}
-use lib.ListN.{length, get_elem?}
+use lib.ListN.{get_elem?}
 use Rattle.rules.specs.declared.Outcome.{Outcome}
 use Rattle.rules.specs.Syntax.{Rule}
 use Rattle.rules.specs.Judging.{is_completed}
