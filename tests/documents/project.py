@@ -84,7 +84,8 @@ class Project:
         return {function: name for name, function in CYCLE.findall(self.text(path))}
 
     def documents(self) -> list[str]:
-        return [p for p in self.files if p.endswith(".md")]
+        """The documents, but for the page of the port, which sets names that are gone beside those of today."""
+        return [p for p in self.files if p.endswith(".md") and p != "docs/PORT.md"]
 
     def under(self, folder: str, suffix: str) -> list[str]:
         return [p for p in self.files if p.startswith(f"{folder}/") and p.endswith(suffix)]
