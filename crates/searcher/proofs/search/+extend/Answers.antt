@@ -13,12 +13,6 @@ use Rattle.searcher.proofs.search.+extend.Goals as goal
 
 -- `extend`
 
-pub extend-ended-requires : goal.extend-ended-requires
-extend-ended-requires t c = omega (arith, c.requires.2)
-
-pub extend-returns-then-left-eq0-clause-sound : goal.extend-returns-then-left-eq0-clause-sound
-extend-returns-then-left-eq0-clause-sound t c = c.requires.3
-
 pub extend-returns-then-left-eq0-clause-value : goal.extend-returns-then-left-eq0-clause-value
 extend-returns-then-left-eq0-clause-value t c = λ g.
     let run = run_of c.args.position c.args.variables.now c.args.balances.now in
@@ -27,12 +21,6 @@ extend-returns-then-left-eq0-clause-value t c = λ g.
 
 pub extend-lookup-slot-requires : goal.extend-lookup-slot-requires
 extend-lookup-slot-requires t c = let h = c.requires.1 in (omega (arith, c.requires.2), (h.sixteen, h.eight))
-
-pub extend-all_ended-requires : goal.extend-all_ended-requires
-extend-all_ended-requires t c = c.if-slot-ne0.true
-
-pub extend-returns-then-slot-ne0-clause-sound : goal.extend-returns-then-slot-ne0-clause-sound
-extend-returns-then-slot-ne0-clause-sound t c = c.requires.3
 
 pub extend-returns-then-slot-ne0-clause-value : goal.extend-returns-then-slot-ne0-clause-value
 extend-returns-then-slot-ne0-clause-value t c = λ g.
@@ -46,9 +34,6 @@ pub extend-extend_each-f-requires : goal.extend-extend_each-f-requires
 extend-extend_each-f-requires t c =
     let p = c.requires in
     (omega (arith, c.decreases, c.if-left-eq0.false), (p.0, p.1, omega (arith, c.if-left-eq0.false), p.2, p.3))
-
-pub extend-returns-in_default : goal.extend-returns-in_default
-extend-returns-in_default t c = record { sound = c.extend_each-f.ensures.sound; value = c.extend_each-f.ensures.value }
 
 pub extend-overflow_sub-n : goal.extend-overflow_sub-n
 extend-overflow_sub-n t c =
@@ -71,26 +56,11 @@ extend-returns-clause-sound t c =
     c.extend_each-f.result (c.extend_each-f.ensures.value g) c.in-Held.is).1)
     c.extend_each-f.ensures.sound
 
-pub extend-returns-clause-value : goal.extend-returns-clause-value
-extend-returns-clause-value t c = c.extend_each-f.ensures.value
-
 -- `extend_by`
-
-pub extend_by-called-next-requires : goal.extend_by-called-next-requires
-extend_by-called-next-requires t c = let h = c.requires in (h.0, h.1, h.2)
-
-pub extend_by-overflow_add-at : goal.extend_by-overflow_add-at
-extend_by-overflow_add-at t c = omega (arith, c.requires.3)
 
 pub extend_by-extend-f-requires : goal.extend_by-extend-f-requires
 extend_by-extend-f-requires t c =
     (omega (arith, c.decreases), (c.requires.0, c.called-next.ensures.fits, c.requires.3, c.requires.4))
-
-pub extend_by-with_row-requires : goal.extend_by-with_row-requires
-extend_by-with_row-requires t c = omega (arith, c.requires.3)
-
-pub extend_by-returns-clause-sound : goal.extend_by-returns-clause-sound
-extend_by-returns-clause-sound t c = c.extend-f.ensures.sound
 
 pub extend_by-returns-clause-value : goal.extend_by-returns-clause-value
 extend_by-returns-clause-value t c = λ g.
@@ -108,16 +78,10 @@ extend_each-loop-row-init t c =
     let h = c.requires in
     (omega arith, h.4, λ g. rw (lists_of-each c.args.plan.count c.args.left (λ z. omega (arith, h.2))))
 
-pub extend_each-overflow_sub-left : goal.extend_each-overflow_sub-left
-extend_each-overflow_sub-left t c = omega (arith, c.requires.2)
-
 pub extend_each-extend_by-f-requires : goal.extend_each-extend_by-f-requires
 extend_each-extend_by-f-requires t c =
     let p = c.requires in
     (omega (arith, c.decreases, p.2), (p.0, c.loop-row-test.true, p.1, omega (arith, p.2, p.3), c.loop-row.invariant.1))
-
-pub extend_each-returns-in_default-clause-sound : goal.extend_each-returns-in_default-clause-sound
-extend_each-returns-in_default-clause-sound t c = c.extend_by-f.ensures.sound
 
 pub extend_each-returns-in_default-clause-value : goal.extend_each-returns-in_default-clause-value
 extend_each-returns-in_default-clause-value t c = λ g.
@@ -140,9 +104,6 @@ extend_each-loop-row-preserved t c =
           (goes a.plan.bound (breaks_in g (run_of a.position a.variables.now a.balances.now)) (replicate a.at 0) (behind a.plan.count (a.left - 1))
           l.row a.plan.count l.n c.extend_by-f.result c.in-Held.m c.loop-row-test.true (c.extend_by-f.ensures.value g) c.in-Held.is),
     )
-
-pub extend_each-returns-clause-sound : goal.extend_each-returns-clause-sound
-extend_each-returns-clause-sound t c = c.loop-row.invariant.1
 
 pub extend_each-returns-clause-value : goal.extend_each-returns-clause-value
 unfolding judged_of
