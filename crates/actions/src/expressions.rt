@@ -20,7 +20,7 @@ pub fn evaluate<'a>(
     requires { Accepted s.now }
     ensures { (a : Accepted s.now) →
         result ≡ value_in (record {
-          variables = variables.entry.now;
+          variables = variables.now;
           locals = locals.now;
           arguments = arguments.now;
           context = context.now;
@@ -41,7 +41,7 @@ fn coded<'a>(
     requires { Accepted s.now }
     ensures { (a : Accepted s.now) →
         value_of result ≡ value_in (record {
-          variables = variables.entry.now;
+          variables = variables.now;
           locals = locals.now;
           arguments = arguments.now;
           context = context.now;
@@ -72,7 +72,7 @@ fn operand<'a>(
     requires { Accepted s.now }
     ensures { (a : Accepted s.now) →
         value_of result ≡ value_in (record {
-          variables = variables.entry.now;
+          variables = variables.now;
           locals = locals.now;
           arguments = arguments.now;
           context = context.now;
@@ -96,7 +96,7 @@ fn leaf<'a>(
     requires { Accepted s.now × (kind_of s.now ≡ 80 → ⊥) × (kind_of s.now ≡ 81 → ⊥) }
     ensures { (a : Accepted s.now) →
         value_of result ≡ value_in (record {
-          variables = variables.entry.now;
+          variables = variables.now;
           locals = locals.now;
           arguments = arguments.now;
           context = context.now;
