@@ -17,7 +17,8 @@ use Rattle.rules.specs.Basics.{first_of, given, is_none}
 use Rattle.rules.specs.Syntax.{Transition, Agreement}
 use Rattle.rules.specs.Expanding.{Step, expansion, table}
 use Rattle.rules.specs.Accepting.{refusal, good, file_of, on_file}
-use Rattle.rules.specs.Running.{Setting, Run, going, returned, stopped, after, statement, guarded}
+use Rattle.rules.specs.declared.Setting.{Setting}
+use Rattle.rules.specs.Running.{Run, going, returned, stopped, after, statement, guarded}
 use Rattle.rules.specs.Calling.{End, ended, leads, ends_in, started, called, refused_call, opening_state, entered, no_call, call_tests, start_setting, call_setting, start_by, call_by}
 use Rattle.rules.specs.Calling.{run_initial, run_by, start_tree, call_tree, start, call, follow, run_list}
 use Rattle.rules.specs.Stepping.{records_in, with, onward, admitted, walk, walk_from, walk_by, settled, start_steps, call_steps}

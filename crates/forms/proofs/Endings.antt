@@ -8,7 +8,8 @@ use lib.Dec.{leb}
 use Rattle.rules.specs.declared.Machine.{Machine}
 use Rattle.rules.specs.Syntax.{Expr}
 use Rattle.rules.specs.Expanding.{Step}
-use Rattle.rules.specs.Running.{Setting, Run, going, returned, stopped, Exec, Action, after, ◌>>◌, perform, condition, loop, repeat, statement}
+use Rattle.rules.specs.declared.Setting.{Setting}
+use Rattle.rules.specs.Running.{Run, going, returned, stopped, Exec, Action, after, ◌>>◌, perform, condition, loop, repeat, statement}
 use Rattle.rules.specs.Calling.{End, ended, halted, leads}
 use Rattle.rules.specs.Stepping.{Records, leaving, with, decided, performed, advance, onward, taken, walk, walk_from}
 use Rattle.rules.specs.Demands.{LoopsEnd, RunsEnd}

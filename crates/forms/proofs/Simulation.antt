@@ -14,7 +14,8 @@ use Rattle.rules.specs.Syntax.{Expr, Simple, set, transfer, require, return}
 use Rattle.rules.specs.Syntax.{Stmt, simple, block, if_then, if_else, while, for, Stmts, last, ◌then◌}
 use Rattle.rules.specs.Reading.{expr_at, simple_at}
 use Rattle.rules.specs.Expanding.{Step, step, step_of, step_kind, target_of, joints, made}
-use Rattle.rules.specs.Running.{Setting, Run, going, returned, stopped, Action, after, ◌>>=◌, ◌>>◌, skip, perform, condition, loop, repeat, statement, statements}
+use Rattle.rules.specs.declared.Setting.{Setting}
+use Rattle.rules.specs.Running.{Run, going, returned, stopped, Action, after, ◌>>=◌, ◌>>◌, skip, perform, condition, loop, repeat, statement, statements}
 use Rattle.rules.specs.Calling.{End, halted, leads}
 use Rattle.rules.specs.Stepping.{records_in, step_from, target_in, with, decided, performed, advance, onward, taken, walk, walk_from}
 use Rattle.forms.proofs.Units.{goes, either, MayGo, MayReturn, limit, Later, Costs, way_of, perform-costs, condition-costs, Grows, then_grows, perform-grows, statement-grows}

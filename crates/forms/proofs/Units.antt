@@ -5,14 +5,14 @@ use native.Mathlib.Omega.{arith}
 use mathlib.Core.Bool.{Bool, true, false, ◌&&◌}
 use lib.Dec.{ltb, leb}
 use borrow.Author.Tests.{ltb-true}
-use Rattle.std.specs.Prelude.{if◌then◌else◌}
+use Rattle.std.specs.Prelude.{if◌then◌else◌, Some, None}
 use Rattle.rules.specs.declared.Machine.{Machine}
-use Rattle.rules.specs.declared.Value.{Value}
-use Rattle.rules.specs.declared.Value.TheVariants.{Is, Failed}
+use Rattle.rules.specs.Values.{Value}
 use Rattle.rules.specs.Syntax.{Expr, Simple, set, transfer, require, return}
 use Rattle.rules.specs.Syntax.{Stmt, simple, block, if_then, if_else, while, for, Stmts, last, ◌then◌}
 use Rattle.rules.specs.Values.{evaluate, is_true}
-use Rattle.rules.specs.Running.{Setting, Run, going, returned, stopped, Exec, Action, after, ◌>>=◌, skip, stop, or_stop, view, assign, return_with}
+use Rattle.rules.specs.declared.Setting.{Setting}
+use Rattle.rules.specs.Running.{Run, going, returned, stopped, Exec, Action, after, ◌>>=◌, skip, stop, or_stop, view, assign, return_with}
 use Rattle.rules.specs.Running.{charge, value, pay, perform, condition, loop, repeat, statement, statements, guarded}
 use Rattle.forms.proofs.Choosing.{if-all}
 
@@ -88,8 +88,8 @@ module _ (c : Setting) where
   value-costs i e m = go (evaluate (view c m) e)
     where
       go : (x : Value) → Costs 0 goes m (or_stop i x m)
-      go (Is x) = (tt, omega arith)
-      go Failed = tt
+      go (Some x) = (tt, omega arith)
+      go None = tt
 
   assign-costs : (t x : ℕ) (m : Machine) → Costs 0 goes m (assign t x m)
   unfolding assign

@@ -1,5 +1,5 @@
 -- "One call, unexpanded" and "Starting": both operations on the unexpanded form, with their complete outcome.
-use Rattle.std.specs.Prelude.{ℕ, ◌+◌, ◌-◌, Bool, ◌&&◌, ◌||◌, List, [], ◌∷◌, ◌++◌, drop, get_or, replicate, eqb, ltb, leb}
+use Rattle.std.specs.Prelude.{ℕ, ◌+◌, ◌-◌, Bool, ◌&&◌, ◌||◌, List, [], ◌∷◌, ◌++◌, drop, get_or, replicate, eqb, ltb, leb, None}
 use Rattle.std.proofs.Math.Bool
 use Rattle.std.proofs.Math.Option.{Option, none, some}
 use Rattle.std.proofs.Math.ListN
@@ -10,13 +10,13 @@ use Rattle.rules.specs.declared.Fields.{Fields}
 use Rattle.rules.specs.declared.Machine.{Machine}
 use Rattle.rules.specs.declared.Outcome.{Outcome}
 use Rattle.rules.specs.declared.Refusal.{Refusal}
-use Rattle.rules.specs.declared.Returned.TheVariants.{NoValue}
 use Rattle.rules.specs.declared.State.{State}
 use Rattle.rules.specs.Basics.{first_of, given, any, find, is_none, sum}
 use Rattle.rules.specs.Syntax.{Transition, Agreement}
 use Rattle.rules.specs.Accepting.{refusal, file_of, on_file}
 use Rattle.rules.specs.Values.{is_true}
-use Rattle.rules.specs.Running.{Setting, machine, Run, going, returned, stopped, ◌>>◌, statement, guarded}
+use Rattle.rules.specs.declared.Setting.{Setting}
+use Rattle.rules.specs.Running.{machine, Run, going, returned, stopped, ◌>>◌, statement, guarded}
 
 abbrev pub outcome : Answer → State → Outcome
 outcome a s = record { answer = a; state = s }
@@ -50,7 +50,7 @@ unfoldable pub entered : Call → State → Machine
 entered k s =
     machine s.variables (replicate 8 0)
     (ListN.set s.balances k.sender (get_or s.balances k.sender 0 - k.coins))
-    (s.own + k.coins) 0 NoValue
+    (s.own + k.coins) 0 None
 
 -- how a run ends: in a state (expanded, at a node) or refused
 pub data End : Type 0 where
@@ -72,7 +72,7 @@ state_after n m = record { state = n; variables = m.variables; balances = m.bala
 
 -- "its return value is dropped, its units are reported"; "27: initial action failed or used up its units"
 unfoldable pub started : End → Outcome
-started (ended n m) = outcome (Completed NoValue m.units) (state_after n m)
+started (ended n m) = outcome (Completed None m.units) (state_after n m)
 started (halted k m) = refused_start (refusal 27) m.units
 
 -- "units charged with 23 to 27 on a start or call, else 0": those are refused in a run, and the others before it

@@ -1,17 +1,14 @@
 -- Worked cases of what the ten cases and the slips leave open: small agreements, and the complete outcomes that document 01 gives
 -- for them. Under each agreement stand its steps, their nodes and offsets counted in its text.
-use Rattle.std.specs.Prelude.{ℕ, true, false, List, [], ◌∷◌, ◌++◌, take, replicate}
+use Rattle.std.specs.Prelude.{ℕ, true, false, List, [], ◌∷◌, ◌++◌, take, replicate, Some, None, Ok, Err}
 use Rattle.rules.specs.declared.Answer.{Answer}
 use Rattle.rules.specs.declared.Answer.TheVariants.{Completed, Refused}
 use Rattle.rules.specs.declared.Call.{Call}
-use Rattle.rules.specs.declared.Counted.TheVariants as counted
 use Rattle.rules.specs.declared.Judged.{Judged}
 use Rattle.rules.specs.declared.Outcome.{Outcome}
 use Rattle.rules.specs.declared.Refusal.{Refusal}
-use Rattle.rules.specs.declared.Returned.TheVariants.{NoValue, Given}
 use Rattle.rules.specs.declared.State.{State}
-use Rattle.rules.specs.declared.Value.{Value}
-use Rattle.rules.specs.declared.Value.TheVariants.{Is, Failed}
+use Rattle.rules.specs.Values.{Value}
 use Rattle.rules.specs.declared.Verdict.TheVariants as verdict
 use Rattle.rules.specs.Basics.{each}
 use Rattle.rules.specs.Text.{text}
@@ -28,10 +25,10 @@ call_of n s c xs = record { name = n; sender = s; coins = c; arguments = xs }
 
 -- completed with "no value" and with a value; refused, without a place
 abbrev done : (units : ℕ) → Answer
-done u = Completed NoValue u
+done u = Completed None u
 
 abbrev gave : (value units : ℕ) → Answer
-gave x u = Completed (Given x) u
+gave x u = Completed (Some x) u
 
 abbrev refused : (number units : ℕ) → Answer
 refused n u = Refused (refusal n) u
@@ -50,8 +47,8 @@ returning_steps = (3 ∷ 0 ∷ 7 ∷ 0 ∷ 20 ∷ []) ++ (2 ∷ 1 ∷ 7 ∷ 0 �
 
 -- the fallback's answer: a return of a value that fails is "25: action failed", with the unit charged before it
 abbrev answered : Value → Answer
-answered (Is x) = gave x 1
-answered Failed = refused 25 1
+answered (Some x) = gave x 1
+answered None = refused 25 1
 
 -- an expression's value where the arguments are x, y, 0, 0
 abbrev valued : (expression : List ℕ) (x y : ℕ) → Value → Task × Result
@@ -69,43 +66,43 @@ unfoldable pub expression_cases : List (Task × Result)
 expression_cases =
     -- "Operators 0 to 10: + − × / remainder = ≠ < ≤ and or." "A sum or product over 4,294,967,295, a difference below zero and a
     -- zero divisor or remainder divisor fail."
-    applied 0 4_294_967_290 5 (Is 4_294_967_295)
-    ∷ applied 0 4_294_967_290 6 Failed
-    ∷ applied 1 9 2 (Is 7)
-    ∷ applied 1 9 9 (Is 0)
-    ∷ applied 1 2 9 Failed
-    ∷ applied 2 65_537 65_535 (Is 4_294_967_295)
-    ∷ applied 2 65_536 65_536 Failed
-    ∷ applied 3 17 5 (Is 3)
-    ∷ applied 3 17 0 Failed
-    ∷ applied 4 17 5 (Is 2)
-    ∷ applied 4 17 0 Failed
+    applied 0 4_294_967_290 5 (Some 4_294_967_295)
+    ∷ applied 0 4_294_967_290 6 None
+    ∷ applied 1 9 2 (Some 7)
+    ∷ applied 1 9 9 (Some 0)
+    ∷ applied 1 2 9 None
+    ∷ applied 2 65_537 65_535 (Some 4_294_967_295)
+    ∷ applied 2 65_536 65_536 None
+    ∷ applied 3 17 5 (Some 3)
+    ∷ applied 3 17 0 None
+    ∷ applied 4 17 5 (Some 2)
+    ∷ applied 4 17 0 None
     -- "Zero is false, anything else true; comparisons, not, and, or yield 1 or 0."
-    ∷ applied 5 9 2 (Is 0)
-    ∷ applied 5 9 9 (Is 1)
-    ∷ applied 6 9 2 (Is 1)
-    ∷ applied 6 9 9 (Is 0)
-    ∷ applied 7 2 9 (Is 1)
-    ∷ applied 7 9 9 (Is 0)
-    ∷ applied 7 9 2 (Is 0)
-    ∷ applied 8 2 9 (Is 1)
-    ∷ applied 8 9 9 (Is 1)
-    ∷ applied 8 9 2 (Is 0)
-    ∷ applied 9 9 2 (Is 1)
-    ∷ applied 9 9 0 (Is 0)
-    ∷ applied 9 0 9 (Is 0)
-    ∷ applied 9 0 0 (Is 0)
-    ∷ applied 10 9 2 (Is 1)
-    ∷ applied 10 9 0 (Is 1)
-    ∷ applied 10 0 9 (Is 1)
-    ∷ applied 10 0 0 (Is 0)
-    ∷ valued (not (argument 0)) 0 0 (Is 1)
-    ∷ valued (not (argument 0)) 9 0 (Is 0)
+    ∷ applied 5 9 2 (Some 0)
+    ∷ applied 5 9 9 (Some 1)
+    ∷ applied 6 9 2 (Some 1)
+    ∷ applied 6 9 9 (Some 0)
+    ∷ applied 7 2 9 (Some 1)
+    ∷ applied 7 9 9 (Some 0)
+    ∷ applied 7 9 2 (Some 0)
+    ∷ applied 8 2 9 (Some 1)
+    ∷ applied 8 9 9 (Some 1)
+    ∷ applied 8 9 2 (Some 0)
+    ∷ applied 9 9 2 (Some 1)
+    ∷ applied 9 9 0 (Some 0)
+    ∷ applied 9 0 9 (Some 0)
+    ∷ applied 9 0 0 (Some 0)
+    ∷ applied 10 9 2 (Some 1)
+    ∷ applied 10 9 0 (Some 1)
+    ∷ applied 10 0 9 (Some 1)
+    ∷ applied 10 0 0 (Some 0)
+    ∷ valued (not (argument 0)) 0 0 (Some 1)
+    ∷ valued (not (argument 0)) 9 0 (Some 0)
     -- "Both sides of every operator are evaluated.": 9 or 9 / 0, 0 and 9 / 0, 9 / 0 and 0; and not (9 / 0)
-    ∷ valued (binary 10 (argument 0) quotient) 9 0 Failed
-    ∷ valued (binary 9 (argument 1) quotient) 9 0 Failed
-    ∷ valued (binary 9 quotient (argument 1)) 9 0 Failed
-    ∷ valued (not quotient) 9 0 Failed
+    ∷ valued (binary 10 (argument 0) quotient) 9 0 None
+    ∷ valued (binary 9 (argument 1) quotient) 9 0 None
+    ∷ valued (binary 9 quotient (argument 1)) 9 0 None
+    ∷ valued (not quotient) 9 0 None
     ∷ []
 
 -- Contexts, arguments, locals and transfers. Three states, six variables, two accounts with 50 and 60, start 1, limit 10.
@@ -294,7 +291,7 @@ branches u calls os = (calling (branching u) branching_steps calls, alike (outco
 
 unfoldable pub branch_cases : List (Task × Result)
 branch_cases =
-    (expanding (branching 13) (replicate 101 9), expanded (lent (counted.Steps 20) (branching_steps ++ (9 ∷ []))))
+    (expanding (branching 13) (replicate 101 9), expanded (lent (Ok 20) (branching_steps ++ (9 ∷ []))))
     -- The for runs twice and is tested three times; the limit is just used up. Then the other transition.
     ∷ branches 13 (branch 1 1 0 ∷ call_of 2 0 0 (replicate 4 0) ∷ [])
     (outcome (done 13) (branched 1 3 12) ∷ outcome (gave 12 2) (branched 0 3 12) ∷ [])
@@ -364,7 +361,7 @@ start_cases =
     ∷ unjudged 0 (replicate 14 9) 11
     ∷ unjudged 0 (replicate 15 9) 27
     -- the expansion's 11
-    ∷ (expanding failing (replicate 14 9), expanded (lent (counted.Refused (refusal 11)) (replicate 14 9)))
+    ∷ (expanding failing (replicate 14 9), expanded (lent (Err (refusal 11)) (replicate 14 9)))
     -- "a failed start prints `start refused 27` after the steps"
     ∷ (reporting failing, printed (text "steps 3\nstart refused 27\n"))
     ∷ []
@@ -473,10 +470,10 @@ bad_field = refusal_at 4 280
 -- the exported numbers: the refusal's number (0 for none) and place, then what was asked for
 unfoldable pub number_cases : List (Task × Result)
 number_cases =
-    (of_read (counted.Steps 6), numbers (0 ∷ 0 ∷ []))
-    ∷ (of_read (counted.Refused bad_field), numbers (4 ∷ 280 ∷ []))
-    ∷ (of_expanded (counted.Steps 6), numbers (0 ∷ 0 ∷ 6 ∷ []))
-    ∷ (of_expanded (counted.Refused bad_field), numbers (4 ∷ 280 ∷ 0 ∷ []))
+    (of_read (Ok 6), numbers (0 ∷ 0 ∷ []))
+    ∷ (of_read (Err bad_field), numbers (4 ∷ 280 ∷ []))
+    ∷ (of_expanded (Ok 6), numbers (0 ∷ 0 ∷ 6 ∷ []))
+    ∷ (of_expanded (Err bad_field), numbers (4 ∷ 280 ∷ 0 ∷ []))
     ∷ (of_called (gave 70 10), numbers (0 ∷ 0 ∷ 1 ∷ 70 ∷ 10 ∷ []))
     ∷ (of_called (done 10), numbers (0 ∷ 0 ∷ 0 ∷ 0 ∷ 10 ∷ []))
     ∷ (of_called (Refused bad_field 3), numbers (4 ∷ 280 ∷ 0 ∷ 0 ∷ 3 ∷ []))

@@ -11,17 +11,17 @@ use lib.ListN.{length, get_or, drop, length-set}
 use lib.ListN
 use lib.Seq.{drop-set-lt}
 use borrow.Author.Tests.{ltb-true, leb-true}
-use Rattle.std.specs.Prelude.{if◌then◌else◌}
+use Rattle.std.specs.Prelude.{if◌then◌else◌, Some, None}
 use Rattle.rules.specs.declared.Fields.{Fields}
 use Rattle.rules.specs.declared.Machine.{Machine}
 use Rattle.rules.specs.declared.State.{State}
-use Rattle.rules.specs.declared.Value.{Value}
-use Rattle.rules.specs.declared.Value.TheVariants.{Is, Failed}
+use Rattle.rules.specs.Values.{Value}
 use Rattle.rules.specs.Basics.{sum}
 use Rattle.rules.specs.Syntax.{Expr, Simple, set, transfer, require, return, Stmt, simple, block, if_then, if_else, while, for}
 use Rattle.rules.specs.Syntax.{Stmts, last, ◌then◌}
 use Rattle.rules.specs.Values.{evaluate, is_true}
-use Rattle.rules.specs.Running.{Setting, machine, Run, going, returned, stopped, Exec, Action, after, ◌>>=◌, ◌>>◌, skip, stop, or_stop, view, assign, return_with}
+use Rattle.rules.specs.declared.Setting.{Setting}
+use Rattle.rules.specs.Running.{machine, Run, going, returned, stopped, Exec, Action, after, ◌>>=◌, ◌>>◌, skip, stop, or_stop, view, assign, return_with}
 use Rattle.rules.specs.Running.{charge, value, pay, perform, condition, loop, repeat, statement, statements, guarded}
 use Rattle.totals.proofs.Trees.{both_true, Target, Aimed, Sound, Sounds}
 
@@ -126,8 +126,8 @@ module _ (c : Setting) (h : Holdings) (room : c.fields.accounts ≤ length h.1) 
   value_keeps n e = record { ends = λ m s. go m s (evaluate (view c m) e) }
     where
       go : (m : Machine) → Like m → (v : Value) → Ends Like (or_stop n v m)
-      go m s Failed = halts
-      go m s (Is x) = goes s
+      go m s None = halts
+      go m s (Some x) = goes s
 
   pay-keeps : (k x : ℕ) → Keeps (pay c.fields.accounts k x)
   unfolding pay

@@ -18,7 +18,8 @@ use Rattle.rules.specs.Basics.{first_of, any, find, sum}
 use Rattle.rules.specs.Syntax.{Transition, Agreement}
 use Rattle.rules.specs.Accepting.{good, file_of, on_file}
 use Rattle.rules.specs.Values.{is_true}
-use Rattle.rules.specs.Running.{Setting, Run, Action}
+use Rattle.rules.specs.declared.Setting.{Setting}
+use Rattle.rules.specs.Running.{Run, Action}
 use Rattle.rules.specs.Calling.{refused_start, refused_call, total, opening_state, no_call, entered, End, ended, halted, leads, ends_in, state_after}
 use Rattle.rules.specs.Calling.{started, called, unfit, call_tests, start_setting, call_setting, start_by, call_by, run_initial}
 use Rattle.rules.specs.Calling.{transition_of, run_by, start_tree, call_tree, start, call, calls_from, follow, run_list}

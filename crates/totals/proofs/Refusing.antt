@@ -7,10 +7,9 @@ use mathlib.Core.Option.{Option, none, some}
 use mathlib.Core.List.{List}
 use lib.ListN.{length, get_elem?}
 use native.Mathlib.Omega.{arith}
-use Rattle.std.specs.Prelude.{if◌then◌else◌}
+use Rattle.std.specs.Prelude.{if◌then◌else◌, Ok, Err}
 use Rattle.rules.specs.declared.Call.{Call}
-use Rattle.rules.specs.declared.Counted.{Counted}
-use Rattle.rules.specs.declared.Counted.TheVariants as counted
+use Rattle.rules.specs.Accepting.{Counted}
 use Rattle.rules.specs.declared.Judged.{Judged}
 use Rattle.rules.specs.declared.Verdict.TheVariants as verdicts
 use Rattle.rules.specs.declared.Fields.{Fields}
@@ -21,7 +20,7 @@ use Rattle.rules.specs.declared.State.{State}
 use Rattle.rules.specs.Basics.{first_of, given}
 use Rattle.rules.specs.Syntax.{Agreement}
 use Rattle.rules.specs.Accepting.{refusal, File, bad, good, file_of, on_file, Lent, lent, too_few, written, expand_file}
-use Rattle.rules.specs.Running.{Setting}
+use Rattle.rules.specs.declared.Setting.{Setting}
 use Rattle.rules.specs.Calling.{zero_state, refused_start, refused_call, End, ended, halted, started, called, start_by, call_by}
 use Rattle.rules.specs.Calling.{start_tree, call_tree, start, call}
 use Rattle.rules.specs.Stepping.{start_steps, call_steps, start_expanded, call_expanded}
@@ -96,15 +95,15 @@ judged-not-refused (held n) r h = let z : ◌≡◌ {A = ℕ} 0 1 = cc in omega 
 judged-not-refused (spent n) r h = let z : ◌≡◌ {A = ℕ} 0 1 = cc in omega arith
 
 expand-leaves : (a : Agreement) (words : List ℕ) (r : Refusal) (b : Bool)
-    → Leaves words (λ (c : Counted). c ≡ counted.Refused r)
-    (if b then lent (counted.Refused (refusal 11)) words else lent (counted.Steps (length (expansion a))) (written a words))
+    → Leaves words (λ (c : Counted). c ≡ Err r)
+    (if b then lent (Err (refusal 11)) words else lent (Ok (length (expansion a))) (written a words))
 expand-leaves a words r true h = refl
 expand-leaves a words r false h = let z : ◌≡◌ {A = ℕ} 0 1 = cc in absurd (omega arith)
 
 pub words-unchanged : WordsUnchanged
 unfolding expand_file verdict judge refused_verdict
 words-unchanged file words i r = (
-  file-case (Leaves words (λ (c : Counted). c ≡ counted.Refused r)) (file_of file) (λ _ _. refl) (λ a _. expand-leaves a words r (too_few a words)),
+  file-case (Leaves words (λ (c : Counted). c ≡ Err r)) (file_of file) (λ _ _. refl) (λ a _. expand-leaves a words r (too_few a words)),
   file-case (Leaves words Refuses) (file_of file) (λ _ _. refl) λ a _.
       given-case (Leaves words Refuses) (get_elem? a.rules i)
       (λ q. given-case (Leaves words Refuses) (first_of (verdict_tests a words)) (λ _ _. refl) (λ _ _ h. absurd (judged-not-refused _ r h)))
