@@ -9,12 +9,15 @@ use native.Mathlib.Omega.{arith}
 use native.Mathlib.Numerals.{sub-one}
 use lib.ListN.{length, drop}
 use Rattle.rules.specs.Basics.{part, sum}
-use Rattle.rules.specs.Reading.{Reading, refused, read, Reader, after, ◌>>=◌, pure, refuse, closed, size_of, kind_of, whole, child, comes, group, no_more}
-use Rattle.records.specs.Checking.{outcome, no_steps, ended, added, from}
-use Rattle.records.specs.declared.Checked.{Checked}
-use Rattle.records.specs.declared.Checked.TheVariants.{Ok, Refused}
-use Rattle.records.proofs.Parts.{from-drop, from-from, empty, not-empty, Whole}
-use Rattle.records.proofs.Readers.{Steady, child-read, child-ends, child-short, child-refuses, child-ended, refused-never, came, gone}
+use Rattle.rules.specs.Reading.{Reading, refused, read, Reader, after, ◌>>=◌, pure, refuse, closed, size_of, whole, child, comes, group, no_more}
+use Rattle.std.specs.Prelude.{Ok, Err}
+use Rattle.records.specs.declared.fault.Fault.{Fault}
+use Rattle.records.specs.declared.answers.Checked.{Checked}
+use Rattle.records.specs.declared.part.Part.{Part}
+use Rattle.records.specs.declared.part.Record.{Record}
+use Rattle.records.specs.Checking.{Answer, Opens, of_part, outcome, found, refused_at, no_steps, ended, added, from}
+use Rattle.records.proofs.Parts.{from-drop, empty, not-empty}
+use Rattle.records.proofs.Readers.{Steady, child-read, child-ends, child-short, child-refuses, child-opened, refused-never, came, gone, added_twice}
 use Rattle.files.specs.Members.{itself, is_next, another}
 
 -- ---- one member
@@ -29,37 +32,38 @@ module _ (body : Reader ℕ) (start at : ℕ) (s : List ℕ) where
   unfolding another refuse
   another-many left e h = rw e (child-refuses _ _ _ _ _ _ h refl)
 
-  module _ (h : Steady 4 itself body) where
-    pub another-ended : (left n : ℕ) → (left ≡ 0 → ⊥) → Whole s n → outcome itself (another left body start at s) ≡ ended (at + n) (outcome itself (body at (at + 4) (part 4 n s)))
-    unfolding another
-    another-ended zero n e w = absurd (e refl)
-    another-ended (suc left) n e w = child-ended (λ _. h) start at n (kind_of s) s w refl
+pub another-ended :
+    {body : Reader ℕ} → Steady 4 itself body → (left : ℕ) → (left ≡ 0 → ⊥) → (p : Part) (r : Record) → Opens p r →
+    outcome itself (of_part (another left body) p) ≡ ended r.end (outcome itself (of_part body r.body))
+unfolding another
+another-ended h zero e p r o = absurd (e refl)
+another-ended h (suc left) e p r o = child-opened (λ _. h) p r o
 
 -- what was read of a member
-pub record Next (body : Reader ℕ) (left start at : ℕ) (s : List ℕ) (m k : ℕ) : Type 0 where
-  pub reads : another left body start at s ≡ read k m (from (m - at) s)
+pub record Next (body : Reader ℕ) (left start at : ℕ) (s : List ℕ) (c : Checked) : Type 0 where
+  pub reads : another left body start at s ≡ read c.steps c.end (from (c.end - at) s)
   pub some : 0 < left
-  pub low : at + 4 ≤ m
-  pub high : m ≤ at + length s
-  pub pays : at + k ≤ m
+  pub low : at + 4 ≤ c.end
+  pub high : c.end ≤ at + length s
+  pub pays : at + c.steps ≤ c.end
 
 pub next-read :
-    {body : Reader ℕ} → Steady 4 itself body → (left start at : ℕ) (s : List ℕ) {m k : ℕ} →
-    Ok m k ≡ outcome itself (another left body start at s) → Next body left start at s m k
+    {body : Reader ℕ} → Steady 4 itself body → (left start at : ℕ) (s : List ℕ) {c : Checked} →
+    Ok c ≡ outcome itself (another left body start at s) → Next body left start at s c
 unfolding another
-next-read h zero start at s e = absurd (refused-never 4 start at s (came itself (child (λ _. refuse 4) start at s) e).2)
-next-read {body} h (suc left) start at s {m} {k} e =
-    let c = came itself (child (λ _. body) start at s) e in
-    let x = child-ends (λ _. h) start at s c.2 in
-    let w = (child-read (λ _. body) start at s c.2).long in
-    let i : m - at ≡ size_of s = omega (arith, x.0) in
-    let r : c.1 ≡ from (m - at) s = x.1 ∙ sym (from-drop (size_of s) s) ∙ ap (λ (i : ℕ). from i s) (sym i) in
+next-read h zero start at s e = absurd (refused-never 4 start at s (came itself (child (λ _. refuse 4) start at s) (sym e)).2)
+next-read {body} h (suc left) start at s {c} e =
+    let q = came itself (child (λ _. body) start at s) (sym e) in
+    let x = child-ends (λ _. h) start at s q.2 in
+    let w = (child-read (λ _. body) start at s q.2).long in
+    let i : c.end - at ≡ size_of s = omega (arith, x.0) in
+    let r : q.1 ≡ from (c.end - at) s = x.1 ∙ sym (from-drop (size_of s) s) ∙ ap (λ (i : ℕ). from i s) (sym i) in
     record {
-      reads = c.2 ∙ ap₂ (λ (a : ℕ) (l : List ℕ). read a m l) c.3 r;
+      reads = q.2 ∙ ap₂ (λ (a : ℕ) (l : List ℕ). read a c.end l) q.3 r;
       some = omega arith;
       low = omega (arith, x.0, w.low);
       high = omega (arith, x.0, w.high);
-      pays = omega (arith, x.0, x.2, c.3);
+      pays = omega (arith, x.0, x.2, q.3);
     }
 
 -- ---- a group of them
@@ -78,21 +82,13 @@ never {A} {B} n start at s h =
     let f : A → (m : ℕ) (l : List ℕ) → Reading B = λ a m l. refused 0 0 in
     never-after n start at s f ∙ ap (λ q. after q f) h
 
-added_none : (c : Checked) → c ≡ added 0 c
-added_none (Ok m k) = ap (Ok m) (omega arith)
-added_none (Refused n p) = refl
-
-added_twice : (i k : ℕ) (c : Checked) → added i (added k c) ≡ added (i + k) c
-added_twice i k (Ok m j) = ap (Ok m) (omega arith)
-added_twice i k (Refused n p) = refl
-
 module _ (kind : ℕ) (body : Reader ℕ) (start at : ℕ) (s : List ℕ) where
-  group-ends : (n : ℕ) → is_next kind s ≡ false → outcome sum (group n kind body start at s) ≡ Ok at 0
+  group-ends : (n : ℕ) → is_next kind s ≡ false → outcome sum (group n kind body start at s) ≡ found at 0
   unfolding group comes is_next sum
   group-ends zero h = rw h
   group-ends (suc n) h = rw h
 
-  group-refuses : (n : ℕ) {k p : ℕ} → is_next kind s ≡ true → another n body start at s ≡ refused k p → outcome sum (group n kind body start at s) ≡ Refused k p
+  group-refuses : (n : ℕ) {k p : ℕ} → is_next kind s ≡ true → another n body start at s ≡ refused k p → outcome sum (group n kind body start at s) ≡ refused_at k p
   unfolding group comes is_next another
   group-refuses zero h e = rw (h, never 4 start at s e)
   group-refuses (suc n) h e = rw (h, e)
@@ -108,41 +104,26 @@ module _ (kind : ℕ) (body : Reader ℕ) (start at : ℕ) (s : List ℕ) where
       go (refused n p) = refl
       go (read ks m l) = refl
 
--- the whole from the steps of its first i bytes, and what is left where so many more may come
-abbrev pub Rest : (kind : ℕ) (body : Reader ℕ) (most at : ℕ) (s : List ℕ) (i steps left : ℕ) → Type 0
-Rest kind body most at s i steps left =
-    (start : ℕ) → outcome sum (group most kind body start at s) ≡ added steps (outcome sum (group left kind body start (at + i) (from i s)))
+-- the answer on a group from the steps of its first members, and what is left where so many more may come
+abbrev pub Rest : (kind : ℕ) (body : Reader ℕ) (start : ℕ) (whole : Answer) (at : ℕ) (s : List ℕ) (steps left : ℕ) → Type 0
+Rest kind body start whole at s steps left = whole ≡ added steps (outcome sum (group left kind body start at s))
 
-module _ (kind : ℕ) (body : Reader ℕ) (most at : ℕ) (s : List ℕ) where
-  pub rest_all : Rest kind body most at s 0 0 most
-  rest_all start = let z : at + 0 ≡ at = omega arith in rw (z, from-drop 0 s) (added_none _)
+module _ (kind : ℕ) (body : Reader ℕ) (start : ℕ) (whole : Answer) (at : ℕ) (s : List ℕ) (steps left : ℕ) (rest : Rest kind body start whole at s steps left) where
+  pub rest-ends : is_next kind s ≡ false → found at steps ≡ whole
+  rest-ends h =
+      let z : found at (steps + 0) ≡ found at steps = ap (found at) (omega arith) in
+      sym (rest ∙ ap (added steps) (group-ends kind body start at s left h) ∙ z)
 
-  module _ (i steps left : ℕ) (rest : Rest kind body most at s i steps left) where
-    pub rest-ends : is_next kind (from i s) ≡ false → (start : ℕ) → Ok (at + i) steps ≡ outcome sum (group most kind body start at s)
-    rest-ends h start =
-        let z : Ok (at + i) (steps + 0) ≡ Ok (at + i) steps = ap (Ok (at + i)) (omega arith) in
-        sym (rest start ∙ ap (added steps) (group-ends kind body start (at + i) (from i s) left h) ∙ z)
+  pub rest-refuses : is_next kind s ≡ true → {e : Fault} → Err e ≡ outcome itself (another left body start at s) → Err e ≡ whole
+  rest-refuses w h = sym (rest ∙ ap (added steps) (group-refuses kind body start at s left w (gone itself (another left body start at s) (sym h))))
 
-    pub rest-refuses :
-        is_next kind (from i s) ≡ true → {n p : ℕ} →
-        ((start : ℕ) → Refused n p ≡ outcome itself (another left body start (at + i) (from i s))) →
-        (start : ℕ) → Refused n p ≡ outcome sum (group most kind body start at s)
-    rest-refuses w h start =
-        let e = gone itself (another left body start (at + i) (from i s)) (h start) in
-        sym (rest start ∙ ap (added steps) (group-refuses kind body start (at + i) (from i s) left w e))
-
-    pub rest_goes :
-        Steady 4 itself body → i ≤ length s → is_next kind (from i s) ≡ true → {m k : ℕ} →
-        ((start : ℕ) → Ok m k ≡ outcome itself (another left body start (at + i) (from i s))) →
-        Rest kind body most at s (m - at) (steps + k) (left - 1)
-    rest_goes st w t {m} {k} h start =
-        let x = next-read st left start (at + i) (from i s) (h start) in
-        let z : m - at ≡ i + (m - (at + i)) = omega (arith, x.low) in
-        let y : from (m - (at + i)) (from i s) ≡ from (m - at) s = from-drop (m - (at + i)) (from i s) ∙ from-from i (m - (at + i)) s ∙ ap (λ (j : ℕ). from j s) (sym z) in
-        let o : m ≡ at + (m - at) = omega (arith, x.low) in
-        let g = group-goes kind body start (at + i) (from i s) left t x.reads in
-        let next : ℕ → List ℕ → Checked = λ n b. outcome sum (group (left - 1) kind body start n b) in
-        rest start ∙ ap (added steps) (g ∙ ap (added k) (ap₂ next o y)) ∙ added_twice steps k (next (at + (m - at)) (from (m - at) s))
+  pub rest_goes :
+      Steady 4 itself body → is_next kind s ≡ true → {c : Checked} → Ok c ≡ outcome itself (another left body start at s) →
+      Rest kind body start whole c.end (from (c.end - at) s) (steps + c.steps) (left - 1)
+  rest_goes st t {c} h =
+      let x = next-read st left start at s h in
+      let g = group-goes kind body start at s left t x.reads in
+      rest ∙ ap (added steps) g ∙ added_twice steps c.steps _
 
 -- ---- members read for their steps
 
@@ -205,15 +186,15 @@ module _ {A : Type 0} (g : A → ℕ) where
 
 -- ---- after the last group
 
-module _ (start at k : ℕ) (l : List ℕ) where
-  pub no-more-end : length l ≡ 0 → Ok at k ≡ added k (outcome no_steps (no_more start at l))
+module _ (start at : ℕ) (l : List ℕ) where
+  pub no-more-end : length l ≡ 0 → found at 0 ≡ outcome no_steps (no_more start at l)
   unfolding no_more
-  no-more-end h = rw (empty l h) (ap (Ok at) (omega arith))
+  no-more-end h = rw (empty l h)
 
-  pub no-more-short : 0 < length l → whole l ≡ false → Refused 2 at ≡ added k (outcome no_steps (no_more start at l))
+  pub no-more-short : 0 < length l → whole l ≡ false → refused_at 2 at ≡ outcome no_steps (no_more start at l)
   unfolding no_more
   no-more-short h w = rw (not-empty l h, child-short {A = Unit {0}} (λ _. refuse 3) start at l w)
 
-  pub no-more-other : 0 < length l → whole l ≡ true → Refused 3 at ≡ added k (outcome no_steps (no_more start at l))
+  pub no-more-other : 0 < length l → whole l ≡ true → refused_at 3 at ≡ outcome no_steps (no_more start at l)
   unfolding no_more refuse
   no-more-other h w = rw (not-empty l h, child-refuses {A = Unit {0}} (λ _. refuse 3) start at l 3 at w refl)

@@ -66,10 +66,10 @@ module _ (vars states : ℕ) where
   first-name : (at : ℕ) (s : List ℕ) {t : Transition} {m : ℕ} → Whole s (size_of s) → transition_body vars states at (at + 4) (part 4 (size_of s) s) ≡ read t m [] → t.name ≡ value_at 1 4 s
   first-name at s w h =
       let n = size_of s in
-      let p : 1 ≤ length (part 4 n s) = transition-long at (part 4 n s) states vars h in
+      let p : 1 ≤ length (part 4 n s) = transition-long at (at + 4) (part 4 n s) states vars h in
       let q : length (part 4 n s) ≡ n - 4 = part_length 4 n s w.high in
       let five : 4 + 1 ≤ n = omega arith in
-      transition-name at (part 4 n s) states vars h
+      transition-name at (at + 4) (part 4 n s) states vars h
       ∙ sym (value_there 1 0 (part 4 n s) p)
       ∙ part-number 4 n 1 s five
       ∙ value_there 1 4 s (omega (arith, w.high))

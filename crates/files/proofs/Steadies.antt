@@ -15,7 +15,7 @@ use Rattle.records.proofs.Readers.{Steady, steady-pure, steady-refuse, steady-fi
 use Rattle.records.proofs.Inversion.{field-read}
 use Rattle.records.proofs.ExpressionLaws.{steady-expression}
 use Rattle.records.proofs.StatementLaws.{steady-statement}
-use Rattle.files.specs.Members.{transition_head, rule_head, one, transition_steps, member, itself}
+use Rattle.files.specs.Members.{transition_head, rule_head, transition_steps, member, itself}
 use Rattle.files.specs.Trees.{tree_steps, groups, groups_steps}
 use Rattle.files.proofs.TreeSteps.{tree-steps}
 
@@ -55,10 +55,10 @@ steady-fields-body =
 
 -- ---- members
 
-pub steady-transition-head : (states : ℕ) → Steady 0 one (transition_head states)
+pub steady-transition-head : (states c : ℕ) → c ≤ 1 → Steady 0 (λ _. c) (transition_head states)
 unfolding transition_head
-steady-transition-head states =
-    steady_then (field-pays 1 1 (omega arith)) λ n.
+steady-transition-head states c few =
+    steady_then (field-pays 1 c few) λ n.
     steady_then (steady-field 1) λ f. steady_then (steady-range (ltb f states)) λ _.
     steady_then (steady-field 1) λ t. steady_then (steady-range (ltb t states)) λ _.
     steady_then steady-zero λ _.

@@ -1,7 +1,7 @@
 -- What the check makes of an agreement's groups, of its body and of a file.
 -- Assumes nothing.
 use Prim.Native.Nat.{ℕ, ◌+◌, ◌≤◌, ◌<◌}
-use mathlib.Core.Path.{◌≡◌, refl, sym, ap, subst, ◌∙◌}
+use mathlib.Core.Path.{◌≡◌, refl, sym, ap, ◌∙◌}
 use mathlib.Core.List.{List, [], ◌∷◌, map}
 use native.Mathlib.Omega.{arith}
 use lib.Dec.{eqb}
@@ -13,12 +13,10 @@ use Rattle.rules.specs.Basics.{choose, part, sum}
 use Rattle.rules.specs.Syntax.{Stmt, Transition, Rule}
 use Rattle.rules.specs.Reading.{Reading, refused, read, Reader, after, ◌>>=◌, ◌>>◌, pure, refuse, size_of, kind_of, child, only, group, no_more}
 use Rattle.rules.specs.Reading.{statement, transition_body, rule_body, row_body, fields_body, agreement_body, read_tree}
-use Rattle.records.specs.Checking.{outcome, no_steps, ended, onward, Within, pair}
+use Rattle.records.specs.Checking.{Answer, outcome, found, refused_at, no_steps, ended, onward, pair}
 use Rattle.records.specs.Counting.{step_count}
-use Rattle.records.specs.declared.Checked.{Checked}
-use Rattle.records.specs.declared.Checked.TheVariants.{Ok, Refused}
 use Rattle.records.proofs.Parts.{Whole, is_whole}
-use Rattle.records.proofs.Readers.{Steady, steady-if, steady-refuse, steady-within, steady-pair, pair-within, pair-onward, pair_then}
+use Rattle.records.proofs.Readers.{Steady, steady-if, steady-refuse, steady-pair, pair-onward, pair_then}
 use Rattle.records.proofs.Readers.{then_same, then-onward, child-refuses, child-ended}
 use Rattle.records.proofs.StatementLaws.{steady-statement}
 use Rattle.files.specs.Answers.{value_at}
@@ -71,10 +69,10 @@ module _ (states vars accounts start at : ℕ) (s : List ℕ) where
   abbrev members : (most kind : ℕ) → Reader (List ℕ)
   members most kind = group most kind (member states vars accounts (names_in 64 s) kind)
 
-  abbrev rows : Checked
+  abbrev rows : Answer
   rows = onward sum (members 16 3) start at s (outcome sum (members 64 2 start at s))
 
-  abbrev rules : Checked
+  abbrev rules : Answer
   rules = onward sum (members 8 4) start at s rows
 
   abbrev total : List ℕ → List ℕ → List ℕ → ℕ
@@ -99,22 +97,13 @@ module _ (states vars accounts start at : ℕ) (s : List ℕ) where
       (group-steps no_steps 4 (rule_body vars (names_in 64 s)) 8 start m l)
       λ rs m l _.
       then_same (no_more start m l) _ (λ _ m l. read (total (map transition_steps ts) (map no_steps cs) (map no_steps rs)) m l) groups_steps itself
-      λ _ m l. ap (Ok m) (omega (arith, sum-no_steps cs, sum-no_steps rs))
+      λ _ m l. ap (found m) (omega (arith, sum-no_steps cs, sum-no_steps rs))
 
   steady : (most kind : ℕ) → Steady 0 sum (members most kind)
   steady most kind = steady-members states vars accounts (names_in 64 s) kind most
 
-  pub transitions-within : Within at (length s) (outcome sum (members 64 2 start at s))
-  transitions-within = steady-within (steady 64 2) start at s
-
-  pub rows-within : Within at (length s) rows
-  rows-within = pair-within (steady 64 2) (steady 16 3) start at s
-
   rules-paired : onward sum (members 8 4) start at s (outcome (λ p. sum p.0 + sum p.1) (pair (members 64 2) (members 16 3) start at s)) ≡ rules
   rules-paired = ap (onward sum (members 8 4) start at s) (pair-onward (steady 64 2) (steady 16 3) start at s)
-
-  pub rules-within : Within at (length s) rules
-  rules-within = subst (Within at (length s)) rules-paired (pair-within (steady-pair (steady 64 2) (steady 16 3)) (steady 8 4) start at s)
 
   pub groups-onward : onward no_steps no_more start at s rules ≡ outcome groups_steps (groups states vars accounts start at s)
   groups-onward =
@@ -129,7 +118,7 @@ module _ (states vars accounts start at : ℕ) (s : List ℕ) where
 
 -- ---- the agreement
 
-module _ (b : List ℕ) where
+module _ (start at : ℕ) (b : List ℕ) where
   abbrev vars : ℕ
   vars = value_at 1 1 b
 
@@ -139,11 +128,11 @@ module _ (b : List ℕ) where
   abbrev grouped : Reader (List Transition × List Call × List Rule)
   grouped = groups_of b
 
-  abbrev initial : Checked
-  initial = onward step_count st 0 4 b (outcome no_steps (fields_body 0 4 b))
+  abbrev initial : Answer
+  initial = onward step_count st start at b (outcome no_steps (fields_body start at b))
 
-  abbrev fallback : Checked
-  fallback = onward step_count st 0 4 b initial
+  abbrev fallback : Answer
+  fallback = onward step_count st start at b initial
 
   -- what follows the fields, read for its steps
   abbrev tail : Fields → Reader ℕ
@@ -151,63 +140,54 @@ module _ (b : List ℕ) where
       statement f.variables 15 >>= λ i. statement f.variables 15 >>= λ e.
       groups f.states f.variables f.accounts >>= λ g. pure (step_count i + step_count e + groups_steps g)
 
-  tree-by-steps : outcome tree_steps (agreement_body 0 4 b) ≡ outcome itself ((fields_body >>= λ _. tail (fields_at b)) 0 4 b)
+  tree-by-steps : outcome tree_steps (agreement_body start at b) ≡ outcome itself ((fields_body >>= λ _. tail (fields_at b)) start at b)
   unfolding agreement_body groups
   tree-by-steps =
-      then-reads (fields_body 0 4 b) _ (λ _ m l. tail (fields_at b) 0 m l) tree_steps itself
+      then-reads (fields_body start at b) _ (λ _ m l. tail (fields_at b) start m l) tree_steps itself
       λ f m l h.
-      then_same (statement f.variables 15 0 m l) _ _ tree_steps itself (λ i m l.
-      then_same (statement f.variables 15 0 m l) _ _ tree_steps itself λ e m l.
-      then-inner (group 64 2 (transition_body f.variables f.states) 0 m l) _ _ _ tree_steps itself λ ts m l.
-      then-inner (group 16 3 (row_body f.accounts) 0 m l) _ _ _ tree_steps itself λ cs m l.
-      then-inner (group 8 4 (rule_body f.variables (map (λ (t : Transition). t.name) ts)) 0 m l) _ _ _ tree_steps itself λ rs m l.
-      then-inner (no_more 0 m l) _ _ _ tree_steps itself λ _ m l.
-      ap (Ok m) (tree-steps (record { fields = f; initial = i; fallback = e; transitions = ts; rows = cs; rules = rs })))
-      ∙ ap (λ (f : Fields). outcome itself (tail f 0 m l)) (fields-are b h)
+      then_same (statement f.variables 15 start m l) _ _ tree_steps itself (λ i m l.
+      then_same (statement f.variables 15 start m l) _ _ tree_steps itself λ e m l.
+      then-inner (group 64 2 (transition_body f.variables f.states) start m l) _ _ _ tree_steps itself λ ts m l.
+      then-inner (group 16 3 (row_body f.accounts) start m l) _ _ _ tree_steps itself λ cs m l.
+      then-inner (group 8 4 (rule_body f.variables (map (λ (t : Transition). t.name) ts)) start m l) _ _ _ tree_steps itself λ rs m l.
+      then-inner (no_more start m l) _ _ _ tree_steps itself λ _ m l.
+      ap (found m) (tree-steps (record { fields = f; initial = i; fallback = e; transitions = ts; rows = cs; rules = rs })))
+      ∙ ap (λ (f : Fields). outcome itself (tail f start m l)) (fields-are start at b h)
 
   steady-st : Steady 0 step_count st
   steady-st = steady-statement vars 15
 
-  pub fields_within : Within 4 (length b) (outcome no_steps (fields_body 0 4 b))
-  fields_within = steady-within steady-fields-body 0 4 b
+  fallback-paired : onward step_count st start at b (outcome (λ p. no_steps p.0 + step_count p.1) (pair fields_body st start at b)) ≡ fallback
+  fallback-paired = ap (onward step_count st start at b) (pair-onward steady-fields-body steady-st start at b)
 
-  pub initial-within : Within 4 (length b) initial
-  initial-within = pair-within steady-fields-body steady-st 0 4 b
-
-  fallback-paired : onward step_count st 0 4 b (outcome (λ p. no_steps p.0 + step_count p.1) (pair fields_body st 0 4 b)) ≡ fallback
-  fallback-paired = ap (onward step_count st 0 4 b) (pair-onward steady-fields-body steady-st 0 4 b)
-
-  pub fallback-within : Within 4 (length b) fallback
-  fallback-within = subst (Within 4 (length b)) fallback-paired (pair-within (steady-pair steady-fields-body steady-st) steady-st 0 4 b)
-
-  pub tree-onward : onward groups_steps grouped 0 4 b fallback ≡ outcome tree_steps (agreement_body 0 4 b)
+  pub tree-onward : onward groups_steps grouped start at b fallback ≡ outcome tree_steps (agreement_body start at b)
   tree-onward =
       let two = steady-pair steady-fields-body steady-st in
       sym
       (tree-by-steps
       ∙ ap (outcome itself)
-      (pair_then fields_body st (λ _ i. st >>= λ e. grouped >>= λ g. pure (step_count i + step_count e + groups_steps g)) 0 4 b
-      ∙ pair_then (pair fields_body st) st (λ p e. grouped >>= λ g. pure (step_count p.1 + step_count e + groups_steps g)) 0 4 b)
-      ∙ then-onward (steady-pair two steady-st) grouped groups_steps itself (λ p g. step_count p.0.1 + step_count p.1 + groups_steps g) (λ p g. omega arith) 0 4 b
-      ∙ ap (onward groups_steps grouped 0 4 b) (pair-onward two steady-st 0 4 b ∙ fallback-paired))
+      (pair_then fields_body st (λ _ i. st >>= λ e. grouped >>= λ g. pure (step_count i + step_count e + groups_steps g)) start at b
+      ∙ pair_then (pair fields_body st) st (λ p e. grouped >>= λ g. pure (step_count p.1 + step_count e + groups_steps g)) start at b)
+      ∙ then-onward (steady-pair two steady-st) grouped groups_steps itself (λ p g. step_count p.0.1 + step_count p.1 + groups_steps g) (λ p g. omega arith) start at b
+      ∙ ap (onward groups_steps grouped start at b) (pair-onward two steady-st start at b ∙ fallback-paired))
 
 -- ---- the file
 
 module _ (file : List ℕ) where
-  abbrev answer : Checked
+  abbrev answer : Answer
   answer = outcome tree_steps (read_tree file)
 
-  pub file-small : length file < 4 → Refused 1 0 ≡ answer
+  pub file-small : length file < 4 → refused_at 1 0 ≡ answer
   unfolding read_tree
   file-small h = rw (lt-leb _ _ h)
 
   module _ (four : 4 ≤ length file) where
-    pub file-large : 32768 < length file → Refused 1 0 ≡ answer
+    pub file-large : 32768 < length file → refused_at 1 0 ≡ answer
     unfolding read_tree
     file-large h = rw (le-leb _ _ four, lt-leb _ _ h)
 
     module _ (fits : length file ≤ 32768) where
-      pub file-length : (size_of file ≡ length file → ⊥) → Refused 1 0 ≡ answer
+      pub file-length : (size_of file ≡ length file → ⊥) → refused_at 1 0 ≡ answer
       unfolding read_tree
       file-length h = rw (le-leb _ _ four, le-leb _ _ fits, ne_eqb _ _ h)
 
@@ -219,7 +199,7 @@ module _ (file : List ℕ) where
         entire : Whole file (length file)
         entire = record { is = is_whole file (length file) long four (omega arith); size = long; low = four; high = omega arith }
 
-        pub file-kind : (kind_of file ≡ 1 → ⊥) → Refused 3 0 ≡ answer
+        pub file-kind : (kind_of file ≡ 1 → ⊥) → refused_at 3 0 ≡ answer
         unfolding only refuse
         file-kind k = sym (as-child ∙ ap (outcome tree_steps) (child-refuses (only 1 agreement_body) 0 0 file 3 0 entire.is (rw (ne_eqb _ _ k))))
 

@@ -4,6 +4,7 @@ use Rattle.rules.specs.Basics.{choose, has}
 use Rattle.rules.specs.Syntax.{Transition}
 use Rattle.rules.specs.Reading.{Reader, ◌>>=◌, ◌>>◌, pure, refuse, in_range, field, zero_byte, size_of, kind_of, whole, child, named, transition_body, rule_body, row_body}
 use Rattle.records.specs.Counting.{step_count}
+use Rattle.files.specs.declared.limits.Limits.{Limits}
 use Rattle.files.specs.Answers.{value_at}
 
 -- a transition's fields: its name, from and to
@@ -28,10 +29,7 @@ rule_head names = do
   in_range (named names t q)
   pure (t, p, q)
 
--- a guard is one step
-abbrev pub one : {A : Type 0} → A → ℕ
-one a = 1
-
+-- its guard is one step
 abbrev pub transition_steps : Transition → ℕ
 transition_steps t = 1 + step_count t.action
 
@@ -62,3 +60,7 @@ unfoldable pub names_in : (n : ℕ) → List ℕ → List ℕ
 names_in zero bytes = []
 names_in (suc n) bytes =
     if whole bytes && eqb (kind_of bytes) 2 then value_at 1 4 bytes ∷ names_in n (drop (size_of bytes) bytes) else []
+
+-- a member of the group of this kind, by what it is tested against
+abbrev pub member_of : Limits → (kind : ℕ) → Reader ℕ
+member_of l kind = member l.states l.variables l.accounts (names_in 64 l.transitions.now) kind

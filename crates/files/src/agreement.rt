@@ -1,38 +1,24 @@
-// The check of the agreement's body. This serves our own crates only: a caller has to see that offsets fit 32 bits.
-ghost use Rattle.std.specs.Prelude.{◌≡◌, ◌+◌, ◌^◌, ◌<◌, length};
+// The check of the agreement's body.
+ghost use Rattle.std.specs.Prelude.{◌≡◌};
 ghost use Rattle.rules.specs.Reading.{agreement_body};
-ghost use Rattle.records.specs.Checking.{outcome, onward, Within};
-ghost use Rattle.files.specs.Trees.{tree_steps, groups_of, groups_steps};
+ghost use Rattle.records.specs.Checking.{outcome, of_part};
+ghost use Rattle.files.specs.Trees.{tree_steps};
 
 use crate::fields::check_fields;
 use crate::groups::check_groups;
-use crate::members::add;
 use crate::values::byte;
-use records::Checked;
-use records::statements::then_statement;
+use records::answers::Checked;
+use records::fault::Fault;
+use records::part::Part;
+use records::statements::check_statement;
 
-// The body of the agreement, whose record is the file's.
-pub fn check_agreement(b: &[u8]) -> Checked
-    requires { 4 + length b.now < 2 ^ 32 }
-    ensures { result ≡ outcome tree_steps (agreement_body 0 4 b.now) }
+pub fn check_agreement(b: Part) -> Result<Checked, Fault>
+    ensures { result ≡ outcome tree_steps (of_part agreement_body b.entry) }
 {
-    let vars = byte(b, 1);
-    let initial = then_statement(b, 4, check_fields(b), 15, vars);
-    let fallback = then_statement(b, 4, initial, 15, vars);
-    then_groups(b, fallback)
-}
-
-// c was read from the agreement's body b; the groups follow it.
-fn then_groups(b: &[u8], c: Checked) -> Checked
-    requires { (4 + length b.now < 2 ^ 32) × Within 4 (length b.now) c }
-    ensures { result ≡ onward groups_steps (groups_of b.now) 0 4 b.now c }
-{
-    match c {
-        Checked::Refused(k, p) => Checked::Refused(k, p),
-        Checked::Ok(m, steps) => {
-            let i = m - 4;
-            let groups = check_groups(&b[i..], m, byte(b, 0), byte(b, 1), byte(b, 2));
-            add(steps, groups)
-        }
-    }
+    let (states, variables, accounts) = (byte(b.bytes, 0), byte(b.bytes, 1), byte(b.bytes, 2));
+    let fields = check_fields(b)?;
+    let initial = check_statement(b.after(fields), 15, variables)?;
+    let fallback = check_statement(b.after(initial), 15, variables)?.more(initial.steps);
+    let groups = check_groups(b.after(fallback), states, variables, accounts)?;
+    Ok(groups.more(fallback.steps))
 }

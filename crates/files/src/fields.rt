@@ -1,76 +1,63 @@
-// The check of fields. This serves our own crates only: a caller has to see that offsets fit 32 bits.
-// A record's body b starts 4 bytes after the record's offset, at.
-ghost use Rattle.std.specs.Prelude.{◌≡◌, ◌&&◌, ◌+◌, ◌^◌, ◌<◌, leb, drop};
+// The check of fields. For this crate only: a caller of `field` or `words` has to see that the field is small or begins in the body.
+ghost use Rattle.std.specs.Prelude.{◌≡◌, ◌&&◌, ◌+◌, ◌^◌, ◌<◌, ◌≤◌, length, leb, drop};
 ghost use Rattle.rules.specs.Reading.{fields as fields_of, fields_body};
-ghost use Rattle.records.specs.Checking.{outcome, no_steps};
-ghost use Rattle.files.specs.Answers.{following, field_answer};
+ghost use Rattle.records.specs.Checking.{outcome, of_part, no_steps};
+ghost use Rattle.files.specs.Answers.{field_answer};
 
 use crate::values::{byte, half, word};
-use records::Checked;
+use records::answers::Checked;
+use records::fault::{Fault, refused};
+use records::part::Part;
 
 pub fn within(x: usize, least: usize, most: usize) -> bool
     ensures { result ≡ (leb least x && leb x most) }
 {
-    if x < least {
-        return false;
-    }
-    x <= most
+    least <= x && x <= most
 }
 
-// After c comes a field of n bytes that stands i bytes into b; `good` says whether its value is in its range.
-pub fn field(b: &[u8], at: usize, c: Checked, i: usize, n: usize, good: bool) -> Checked
-    requires { (0 < n) × (at + (4 + (i + n)) < 2 ^ 33) }
-    ensures { result ≡ following c (field_answer n i at b.now good) }
+// A field of n bytes that stands i bytes into b; `good` says whether its value is in its range.
+pub fn field(b: Part, i: usize, n: usize, good: bool) -> Result<(), Fault>
+    requires { (0 < n) × (i + n < 2 ^ 32) }
+    ensures { result ≡ field_answer n i b.entry.start b.entry.at b.entry.bytes.now good }
 {
-    match c {
-        Checked::Refused(k, p) => Checked::Refused(k, p),
-        Checked::Ok(_, _) => {
-            let end = i + n;
-            if b.len() < end {
-                return Checked::Refused(2, at + (4 + i));
-            }
-            if good {
-                Checked::Ok(at + (4 + end), 0)
-            } else {
-                Checked::Refused(4, at)
-            }
-        }
+    if b.bytes.len() < i + n {
+        return Err(refused(2, b.at + i));
+    }
+    if good {
+        Ok(())
+    } else {
+        Err(refused(4, b.start))
     }
 }
 
-// After c come k fields of 4 bytes, of any value, the first of them i bytes into b.
-pub fn words(b: &[u8], at: usize, c: Checked, i: usize, k: usize) -> Checked
-    requires { (at < 2 ^ 32) × (i < 256) × (k < 256) }
-    ensures { result ≡ following c (outcome no_steps (fields_of k 4 at (at + (4 + i)) (drop i b.now))) }
+// k fields of 4 bytes, of any value, the first of them i bytes into b.
+pub fn words(b: Part, i: usize, k: usize) -> Result<Checked, Fault>
+    requires { (i ≤ length b.bytes.now) × (k < 2 ^ 32) }
+    ensures { result ≡ outcome no_steps (fields_of k 4 b.entry.start (b.entry.at + i) (drop i b.entry.bytes.now)) }
 {
-    match c {
-        Checked::Refused(k, p) => Checked::Refused(k, p),
-        Checked::Ok(_, _) => {
-            let mut j = i;
-            for _ in 0..k {
-                if b.len() < j + 4 {
-                    return Checked::Refused(2, at + (4 + j));
-                }
-                j += 4;
-            }
-            Checked::Ok(at + (4 + j), 0)
-        }
+    let whole = (b.bytes.len() - i) / 4;
+    if whole < k {
+        return Err(refused(2, b.at + i + 4 * whole));
     }
+    Ok(Checked {
+        end: b.at + i + 4 * k,
+        steps: 0,
+    })
 }
 
 // The agreement's own fields.
-pub fn check_fields(b: &[u8]) -> Checked
-    ensures { result ≡ outcome no_steps (fields_body 0 4 b.now) }
+pub fn check_fields(b: Part) -> Result<Checked, Fault>
+    ensures { result ≡ outcome no_steps (of_part fields_body b.entry) }
 {
-    let states = byte(b, 0);
-    let accounts = byte(b, 2);
-    let s = field(b, 0, Checked::Ok(4, 0), 0, 1, within(states, 1, 64));
-    let v = field(b, 0, s, 1, 1, byte(b, 1) <= 16);
-    let a = field(b, 0, v, 2, 1, within(accounts, 1, 8));
-    let start = field(b, 0, a, 3, 1, byte(b, 3) < states);
-    let depth = field(b, 0, start, 4, 1, byte(b, 4) <= 8);
-    let zero = field(b, 0, depth, 5, 1, byte(b, 5) == 0);
-    let limit = field(b, 0, zero, 6, 2, within(half(b, 6), 1, 4096));
-    let bound = field(b, 0, limit, 8, 4, within(word(b, 8), 1, 1_000_000));
-    words(b, 0, bound, 12, accounts)
+    let states = byte(b.bytes, 0);
+    let accounts = byte(b.bytes, 2);
+    field(b, 0, 1, within(states, 1, 64))
+        .and(field(b, 1, 1, byte(b.bytes, 1) <= 16))
+        .and(field(b, 2, 1, within(accounts, 1, 8)))
+        .and(field(b, 3, 1, byte(b.bytes, 3) < states))
+        .and(field(b, 4, 1, byte(b.bytes, 4) <= 8))
+        .and(field(b, 5, 1, byte(b.bytes, 5) == 0))
+        .and(field(b, 6, 2, within(half(b.bytes, 6), 1, 4096)))
+        .and(field(b, 8, 4, within(word(b.bytes, 8), 1, 1_000_000)))?;
+    words(b, 12, accounts)
 }

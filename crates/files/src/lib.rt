@@ -4,6 +4,7 @@
 mod agreement;
 mod fields;
 mod groups;
+mod limits;
 mod members;
 mod names;
 pub mod values;
@@ -14,25 +15,31 @@ ghost use Rattle.records.specs.Checking.{outcome};
 ghost use Rattle.files.specs.Trees.{tree_steps};
 
 use crate::agreement::check_agreement;
-use records::Checked;
-use records::answers::close;
+use records::answers::Checked;
 use records::bytes::u16_at;
+use records::fault::{Fault, refused};
+use records::part::Part;
 
-pub fn check_file(file: &[u8]) -> Checked
+pub fn check_file(file: &[u8]) -> Result<Checked, Fault>
     ensures { result ≡ outcome tree_steps (read_tree file.now) }
 {
     let n = file.len();
     if n < 4 {
-        return Checked::Refused(1, 0);
+        return Err(refused(1, 0));
     }
     if 32768 < n {
-        return Checked::Refused(1, 0);
+        return Err(refused(1, 0));
     }
     if u16_at(file, 0) != n {
-        return Checked::Refused(1, 0);
+        return Err(refused(1, 0));
     }
     if u16_at(file, 2) != 1 {
-        return Checked::Refused(3, 0);
+        return Err(refused(3, 0));
     }
-    close(n, check_agreement(&file[4..]))
+    let whole = Part {
+        start: 0,
+        at: 0,
+        bytes: file,
+    };
+    check_agreement(whole.body(n))?.closed(n)
 }

@@ -10,21 +10,18 @@ use records::bytes::{record_len, u16_at};
 pub fn is_name(s: &[u8], name: usize) -> bool
     ensures { result ≡ any (eqb name) (names_in 64 s.now) }
 {
-    let mut i = 0;
-    let mut left: usize = 64;
-    while 0 < left {
-        let n = record_len(&s[i..]);
-        if n < 4 {
+    let mut rest = s;
+    for _ in 0..64_usize {
+        let Some(n) = record_len(rest) else {
+            return false;
+        };
+        if u16_at(rest, 2) != 2 {
             return false;
         }
-        if u16_at(&s[i..], 2) != 2 {
-            return false;
-        }
-        if name == byte(&s[i..], 4) {
+        if name == byte(rest, 4) {
             return true;
         }
-        i += n;
-        left -= 1;
+        rest = &rest[n..];
     }
     false
 }
@@ -33,8 +30,5 @@ pub fn is_name(s: &[u8], name: usize) -> bool
 pub fn is_named(s: &[u8], kind: usize, n: usize) -> bool
     ensures { result ≡ named (names_in 64 s.now) kind n }
 {
-    if kind == 1 {
-        return n == 0;
-    }
-    is_name(s, n)
+    if kind == 1 { n == 0 } else { is_name(s, n) }
 }

@@ -1,5 +1,5 @@
 -- What the first repeat says of the tree, and that the place of refusal 6 is at most 32,768 (repeat-small).
-use Rattle.std.specs.Prelude.{if◌then◌else◌}
+use Rattle.std.specs.Prelude.{if◌then◌else◌, Some, None}
 use mathlib.Core.Path.{◌≡◌, refl}
 use Prim.Native.Nat.{ℕ, ◌≤◌}
 use native.Mathlib.Omega.{arith}
@@ -16,7 +16,6 @@ use Rattle.access.proofs.Trees.{tree-parts}
 use Rattle.access.proofs.Items.{transition-items}
 use Rattle.access.proofs.Using.{all-items, tree-bounds}
 use Rattle.access.specs.Answers.{repeat_of}
-use Rattle.access.specs.declared.Repeat.TheVariants.{Nowhere, At}
 
 -- no transition begins past e
 abbrev Before : ℕ → Transition → Type 0
@@ -37,10 +36,10 @@ repeat-small {file} t p q =
     among 32768 p [] t.tree.transitions
     (all-items t.tree.transitions (transition-items (tree-parts t).out) (λ at x h. omega (arith, h.placed, h.fits, (tree-bounds t).size))) q
 
-pub repeat-some : (o : Option ℕ) {p : ℕ} → At p ≡ repeat_of o → o ≡ some p
+pub repeat-some : (o : Option ℕ) {p : ℕ} → Some p ≡ repeat_of o → o ≡ some p
 repeat-some none h = let z : ◌≡◌ {A = ℕ} 0 1 = cc in absurd (omega arith)
 repeat-some (some q) {p} h = let z : p ≡ q = cc in cc
 
-pub repeat-none : (o : Option ℕ) → Nowhere ≡ repeat_of o → o ≡ none
+pub repeat-none : (o : Option ℕ) → None ≡ repeat_of o → o ≡ none
 repeat-none none h = refl
 repeat-none (some q) h = let z : ◌≡◌ {A = ℕ} 0 1 = cc in absurd (omega arith)

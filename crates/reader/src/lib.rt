@@ -9,12 +9,10 @@ ghost use Rattle.files.specs.Trees.{tree_steps};
 ghost use Rattle.access.specs.Trees.{TreeRead};
 ghost use Rattle.reader.specs.Answers.{counted_of};
 
-use access::Repeat;
 use access::fields::{fields, opening_sum};
 use access::places::layout;
 use access::transitions::first_repeat;
 use files::check_file;
-use records::Checked;
 use rules::{Counted, Refusal};
 
 // Any bytes: the refusal with its number and place, or the step count of an accepted file.
@@ -22,16 +20,16 @@ pub fn read(file: &[u8]) -> Counted
     ensures { result ≡ read_file file.now }
 {
     match check_file(file) {
-        Checked::Refused(n, p) => refused(n, p),
-        Checked::Ok(_, steps) => accepted(file, steps),
+        Ok(checked) => accepted(file, checked.steps),
+        Err(fault) => refused(fault.number, fault.place),
     }
 }
 
 fn refused(number: u8, place: usize) -> Counted
     requires { place < 2 ^ 32 }
-    ensures { result ≡ Counted.Refused (refusal_at number place) }
+    ensures { result ≡ Err (refusal_at number place) }
 {
-    Counted::Refused(Refusal {
+    Err(Refusal {
         number,
         place: place as u32,
     })
@@ -43,8 +41,8 @@ fn accepted(file: &[u8], steps: usize) -> Counted
     ensures { (a : TreeRead file.now) → steps ≡ tree_steps a.tree → result ≡ counted_of (accept a.tree) }
 {
     match first_repeat(file, layout(file)) {
-        Repeat::At(p) => refused(6, p),
-        Repeat::Nowhere => sized(opening_sum(fields(file)), steps),
+        Some(p) => refused(6, p),
+        None => sized(opening_sum(fields(file)), steps),
     }
 }
 
@@ -57,5 +55,5 @@ fn sized(sum: u64, steps: usize) -> Counted
     if 1024 < steps {
         return refused(8, 0);
     }
-    Counted::Steps(steps as u32)
+    Ok(steps as u32)
 }

@@ -1,6 +1,7 @@
 -- What the check makes of an expression record's body, by its kind.
 -- Assumes nothing.
-use Prim.Native.Nat.{ℕ, ◌+◌}
+use Rattle.std.specs.Prelude.{not as opposite}
+use Prim.Native.Nat.{ℕ}
 use mathlib.Core.Path.{◌≡◌, refl, ap, fun_ext, ◌∙◌}
 use mathlib.Core.Bool.{Bool, true, false, ◌&&◌}
 use mathlib.Core.List.{List}
@@ -10,18 +11,16 @@ use borrow.Author.Tests.{le-leb, ne_eqb}
 use Rattle.rules.specs.Basics.{choose}
 use Rattle.rules.specs.Syntax.{Expr, constant, variable, local, argument, context, binary, not}
 use Rattle.rules.specs.Reading.{Reader, ◌>>=◌, ◌>>◌, pure, refuse, in_range, field, expression_body, expression}
-use Rattle.records.specs.Checking.{outcome, no_steps, onward, ranged}
-use Rattle.records.specs.declared.Checked.{Checked}
-use Rattle.records.specs.declared.Checked.TheVariants.{Refused}
+use Rattle.records.specs.Checking.{Answer, outcome, refused_at, no_steps, onward, ranged}
 use Rattle.records.proofs.Readers.{then-pure, then-onward, steady-pair, pair-onward, pair_then, steady-ranged, ranged-then}
 use Rattle.records.proofs.ExpressionLaws.{steady-expression}
 
-abbrev pub body_answer : (vars : ℕ) (in_rule : Bool) (levels start : ℕ) (s : List ℕ) (kind : ℕ) → Checked
-body_answer vars in_rule levels start s kind = outcome no_steps (expression_body vars in_rule (expression vars in_rule levels) kind start (start + 4) s)
+abbrev pub body_answer : (vars : ℕ) (in_rule : Bool) (levels start at : ℕ) (s : List ℕ) (kind : ℕ) → Answer
+body_answer vars in_rule levels start at s kind = outcome no_steps (expression_body vars in_rule (expression vars in_rule levels) kind start at s)
 
 -- a 16-bit field from `least` on and below `bound`
-abbrev pub index_answer : (least bound start : ℕ) (s : List ℕ) → Checked
-index_answer least bound start s = outcome no_steps (ranged (λ i. leb least i && ltb i bound) start (start + 4) s)
+abbrev pub index_answer : (least bound start at : ℕ) (s : List ℕ) → Answer
+index_answer least bound start at s = outcome no_steps (ranged (λ i. leb least i && ltb i bound) start at s)
 
 swapped : (a b : Bool) → (a && b) ≡ (b && a)
 swapped true true = refl
@@ -29,56 +28,60 @@ swapped true false = refl
 swapped false true = refl
 swapped false false = refl
 
+turned : (a b : Bool) → opposite a ≡ b → a ≡ opposite b
+turned true b h = ap opposite h
+turned false b h = ap opposite h
+
 from_zero : (bound i : ℕ) → ltb i bound ≡ (leb 0 i && ltb i bound)
 from_zero bound i = rw (le-leb 0 i (omega arith))
 
 is-index :
-    (least bound start : ℕ) (s : List ℕ) (test : ℕ → Bool) (tree : ℕ → Expr) →
+    (least bound start at : ℕ) (s : List ℕ) (test : ℕ → Bool) (tree : ℕ → Expr) →
     ((i : ℕ) → test i ≡ (leb least i && ltb i bound)) →
-    outcome no_steps ((field 2 >>= λ i. in_range (test i) >> pure (tree i)) start (start + 4) s) ≡ index_answer least bound start s
-is-index least bound start s test tree h =
-    ap (outcome no_steps) (ranged-then test (λ i. pure (tree i)) start (start + 4) s)
-    ∙ then-pure no_steps tree (ranged test start (start + 4) s)
-    ∙ ap (λ (t : ℕ → Bool). outcome no_steps (ranged t start (start + 4) s)) (fun_ext h)
+    outcome no_steps ((field 2 >>= λ i. in_range (test i) >> pure (tree i)) start at s) ≡ index_answer least bound start at s
+is-index least bound start at s test tree h =
+    ap (outcome no_steps) (ranged-then test (λ i. pure (tree i)) start at s)
+    ∙ then-pure no_steps tree (ranged test start at s)
+    ∙ ap (λ (t : ℕ → Bool). outcome no_steps (ranged t start at s)) (fun_ext h)
 
-module _ (vars : ℕ) (in_rule : Bool) (levels start : ℕ) (s : List ℕ) (kind : ℕ) where
-  pub constant-is : kind ≡ 64 → body_answer vars in_rule levels start s kind ≡ outcome no_steps (field 4 start (start + 4) s)
+module _ (vars : ℕ) (in_rule : Bool) (levels start at : ℕ) (s : List ℕ) (kind : ℕ) where
+  pub constant-is : kind ≡ 64 → body_answer vars in_rule levels start at s kind ≡ outcome no_steps (field 4 start at s)
   unfolding expression_body choose
-  constant-is k = rw k (then-pure no_steps constant (field 4 start (start + 4) s))
+  constant-is k = rw k (then-pure no_steps constant (field 4 start at s))
 
-  pub variable-is : kind ≡ 65 → body_answer vars in_rule levels start s kind ≡ index_answer 0 vars start s
+  pub variable-is : kind ≡ 65 → body_answer vars in_rule levels start at s kind ≡ index_answer 0 vars start at s
   unfolding expression_body choose
-  variable-is k = rw k (is-index 0 vars start s (λ i. ltb i vars) variable (from_zero vars))
+  variable-is k = rw k (is-index 0 vars start at s (λ i. ltb i vars) variable (from_zero vars))
 
-  pub local-refused : kind ≡ 66 → in_rule ≡ true → body_answer vars in_rule levels start s kind ≡ Refused 3 start
+  pub local-refused : kind ≡ 66 → opposite in_rule ≡ false → body_answer vars in_rule levels start at s kind ≡ refused_at 3 start
   unfolding expression_body choose refuse
-  local-refused k h = rw (k, h)
+  local-refused k h = rw (k, turned in_rule false h)
 
-  pub local-is : kind ≡ 66 → in_rule ≡ false → body_answer vars in_rule levels start s kind ≡ index_answer 0 8 start s
+  pub local-is : kind ≡ 66 → opposite in_rule ≡ true → body_answer vars in_rule levels start at s kind ≡ index_answer 0 8 start at s
   unfolding expression_body choose
-  local-is k h = rw (k, h) (is-index 0 8 start s (λ i. ltb i 8) local (from_zero 8))
+  local-is k h = rw (k, turned in_rule true h) (is-index 0 8 start at s (λ i. ltb i 8) local (from_zero 8))
 
-  pub argument-refused : kind ≡ 67 → in_rule ≡ true → body_answer vars in_rule levels start s kind ≡ Refused 3 start
+  pub argument-refused : kind ≡ 67 → opposite in_rule ≡ false → body_answer vars in_rule levels start at s kind ≡ refused_at 3 start
   unfolding expression_body choose refuse
-  argument-refused k h = rw (k, h)
+  argument-refused k h = rw (k, turned in_rule false h)
 
-  pub argument_is : kind ≡ 67 → in_rule ≡ false → body_answer vars in_rule levels start s kind ≡ index_answer 0 4 start s
+  pub argument_is : kind ≡ 67 → opposite in_rule ≡ true → body_answer vars in_rule levels start at s kind ≡ index_answer 0 4 start at s
   unfolding expression_body choose
-  argument_is k h = rw (k, h) (is-index 0 4 start s (λ i. ltb i 4) argument (from_zero 4))
+  argument_is k h = rw (k, turned in_rule true h) (is-index 0 4 start at s (λ i. ltb i 4) argument (from_zero 4))
 
-  pub context-in-rule : kind ≡ 68 → in_rule ≡ true → body_answer vars in_rule levels start s kind ≡ index_answer 2 4 start s
+  pub context-in-rule : kind ≡ 68 → in_rule ≡ true → body_answer vars in_rule levels start at s kind ≡ index_answer 2 4 start at s
   unfolding expression_body choose
-  context-in-rule k h = rw (k, h) (is-index 2 4 start s (λ i. ltb i 4 && leb 2 i) context λ i. swapped (ltb i 4) (leb 2 i))
+  context-in-rule k h = rw (k, h) (is-index 2 4 start at s (λ i. ltb i 4 && leb 2 i) context λ i. swapped (ltb i 4) (leb 2 i))
 
-  pub context-is : kind ≡ 68 → in_rule ≡ false → body_answer vars in_rule levels start s kind ≡ index_answer 0 4 start s
+  pub context-is : kind ≡ 68 → in_rule ≡ false → body_answer vars in_rule levels start at s kind ≡ index_answer 0 4 start at s
   unfolding expression_body choose
-  context-is k h = rw (k, h) (is-index 0 4 start s (λ i. ltb i 4 && true) context λ i. swapped (ltb i 4) true ∙ from_zero 4 i)
+  context-is k h = rw (k, h) (is-index 0 4 start at s (λ i. ltb i 4 && true) context λ i. swapped (ltb i 4) true ∙ from_zero 4 i)
 
   -- an expression after c
-  abbrev next : Checked → Checked
-  next = onward no_steps (expression vars in_rule levels) start (start + 4) s
+  abbrev next : Answer → Answer
+  next = onward no_steps (expression vars in_rule levels) start at s
 
-  pub binary-is : kind ≡ 80 → body_answer vars in_rule levels start s kind ≡ next (next (index_answer 0 11 start s))
+  pub binary-is : kind ≡ 80 → body_answer vars in_rule levels start at s kind ≡ next (next (index_answer 0 11 start at s))
   unfolding expression_body choose
   binary-is k =
       let e : Reader Expr = expression vars in_rule levels in
@@ -86,18 +89,18 @@ module _ (vars : ℕ) (in_rule : Bool) (levels start : ℕ) (s : List ℕ) (kind
       let test : ℕ → Bool = λ o. ltb o 11 in
       let rest : ℕ → Expr → Reader Expr = λ o x. e >>= λ y. pure (binary o x y) in
       rw k
-      (ap (outcome no_steps) (ranged-then test (λ o. e >>= rest o) start (start + 4) s ∙ pair_then (ranged test) e rest start (start + 4) s)
-      ∙ then-onward (steady-pair (steady-ranged test) h) e no_steps no_steps (λ p y. binary p.0 p.1 y) (λ a b. refl) start (start + 4) s
-      ∙ ap next (pair-onward (steady-ranged test) h start (start + 4) s))
-      ∙ ap (λ (t : ℕ → Bool). next (next (outcome no_steps (ranged t start (start + 4) s)))) (fun_ext (from_zero 11))
+      (ap (outcome no_steps) (ranged-then test (λ o. e >>= rest o) start at s ∙ pair_then (ranged test) e rest start at s)
+      ∙ then-onward (steady-pair (steady-ranged test) h) e no_steps no_steps (λ p y. binary p.0 p.1 y) (λ a b. refl) start at s
+      ∙ ap next (pair-onward (steady-ranged test) h start at s))
+      ∙ ap (λ (t : ℕ → Bool). next (next (outcome no_steps (ranged t start at s)))) (fun_ext (from_zero 11))
 
-  pub not_is : kind ≡ 81 → body_answer vars in_rule levels start s kind ≡ outcome no_steps (expression vars in_rule levels start (start + 4) s)
+  pub not_is : kind ≡ 81 → body_answer vars in_rule levels start at s kind ≡ outcome no_steps (expression vars in_rule levels start at s)
   unfolding expression_body choose
-  not_is k = rw k (then-pure no_steps not (expression vars in_rule levels start (start + 4) s))
+  not_is k = rw k (then-pure no_steps not (expression vars in_rule levels start at s))
 
   pub other-is :
       (kind ≡ 64 → ⊥) → (kind ≡ 65 → ⊥) → (kind ≡ 66 → ⊥) → (kind ≡ 67 → ⊥) → (kind ≡ 68 → ⊥) → (kind ≡ 80 → ⊥) → (kind ≡ 81 → ⊥) →
-      body_answer vars in_rule levels start s kind ≡ Refused 3 start
+      body_answer vars in_rule levels start at s kind ≡ refused_at 3 start
   unfolding expression_body choose refuse
   other-is a b c d f g h =
       simp (ne_eqb _ _ a, ne_eqb _ _ b, ne_eqb _ _ c, ne_eqb _ _ d, ne_eqb _ _ f, ne_eqb _ _ g, ne_eqb _ _ h)

@@ -1,27 +1,27 @@
 -- Laws of the reading of expressions: how far it goes, and what the check makes of a record by its length, level and kind.
 -- Assumes nothing.
 use Rattle.std.specs.Prelude.{if◌then◌else◌}
-use Prim.Native.Nat.{ℕ, zero, suc, ◌+◌, ◌-◌, ◌≤◌}
+use Prim.Native.Nat.{ℕ, zero, suc, ◌-◌, ◌≤◌}
 use mathlib.Core.Path.{◌≡◌, refl}
 use mathlib.Core.Bool.{Bool, true, false, ◌&&◌}
 use mathlib.Core.List.{List}
 use native.Mathlib.Omega.{arith}
 use native.Mathlib.Numerals.{sub-one}
 use lib.Dec.{ltb, leb}
-use Rattle.rules.specs.Basics.{part}
 use Rattle.rules.specs.Syntax.{Expr, constant, variable, local, argument, context, binary, not}
-use Rattle.rules.specs.Reading.{refused, Reader, ◌>>=◌, ◌>>◌, pure, refuse, in_range, field, kind_of, whole, expression_body, expression}
-use Rattle.records.specs.Checking.{outcome, no_steps, ended}
-use Rattle.records.proofs.Parts.{Whole}
+use Rattle.rules.specs.Reading.{refused, Reader, ◌>>=◌, ◌>>◌, pure, refuse, in_range, field, whole, expression_body, expression}
+use Rattle.records.specs.declared.part.Part.{Part}
+use Rattle.records.specs.declared.part.Record.{Record}
+use Rattle.records.specs.Checking.{Opens, of_part, outcome, no_steps, ended}
 use Rattle.records.proofs.Readers.{Steady, steady-pure, steady-refuse, steady-first, steady-other, steady-if, steady-range, steady-field, steady_then, steady-child}
 use Rattle.records.proofs.Inversion.{Ends, ends-child, ends-never}
-use Rattle.records.proofs.Readers.{child-short, child-refuses, child-ended}
+use Rattle.records.proofs.Readers.{child-short, child-refuses, child-opened}
 
 module _ (vars : ℕ) (in_rule : Bool) where
   index : {A : Type 0} {count : A → ℕ} (test : ℕ → Bool) (tree : ℕ → A) → ((i : ℕ) → count (tree i) ≤ 4) → Steady 4 count (field 2 >>= λ i. in_range (test i) >> pure (tree i))
   index test tree h = steady_then (steady-field 2) λ i. steady_then (steady-range (test i)) λ _. steady-pure (tree i) (omega (arith, h i))
 
-  steady-body : {e : Reader Expr} (c : ℕ) → c ≤ 4 → Steady 0 no_steps e → (kind : ℕ) → Steady 4 (λ _. c) (expression_body vars in_rule e kind)
+  pub steady-body : {e : Reader Expr} (c : ℕ) → c ≤ 4 → Steady 0 no_steps e → (kind : ℕ) → Steady 4 (λ _. c) (expression_body vars in_rule e kind)
   unfolding expression_body
   steady-body c few h kind =
       steady-first _ _ _ _ (steady_then (steady-field 4) λ n. steady-pure (constant n) (omega arith))
@@ -54,13 +54,10 @@ module _ (vars : ℕ) (in_rule : Bool) where
     unfolding expression refuse
     expression-deep levels e h = rw e (child-refuses _ _ _ _ _ _ h refl)
 
-    pub expression-ended :
-        (levels n kind : ℕ) →
-        (levels ≡ 0 → ⊥) →
-        Whole s n →
-        kind ≡ kind_of s →
-        outcome no_steps (expression vars in_rule levels start at s) ≡ ended (at + n) (outcome no_steps (expression_body vars in_rule (expression vars in_rule (levels - 1)) kind at (at + 4) (part 4 n s)))
-    unfolding expression
-    expression-ended zero n kind e w k = absurd (e refl)
-    expression-ended (suc levels) n kind e w k =
-        rw sub-one (child-ended (steady-body 0 (omega arith) (steady-expression levels 0 (omega arith))) start at n kind s w k)
+  pub expression-ended :
+      (levels : ℕ) → (levels ≡ 0 → ⊥) → (p : Part) (r : Record) → Opens p r →
+      outcome no_steps (of_part (expression vars in_rule levels) p)
+      ≡ ended r.end (outcome no_steps (of_part (expression_body vars in_rule (expression vars in_rule (levels - 1)) r.kind) r.body))
+  unfolding expression
+  expression-ended zero e p r o = absurd (e refl)
+  expression-ended (suc levels) e p r o = rw sub-one (child-opened (steady-body 0 (omega arith) (steady-expression levels 0 (omega arith))) p r o)

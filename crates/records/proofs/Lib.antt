@@ -12,4 +12,3 @@ pub mod Accepts
 pub mod Simples
 pub mod Goods
 pub mod GoodBlocks
-pub mod Anywhere

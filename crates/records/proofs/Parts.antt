@@ -12,6 +12,7 @@ use lib.Seq.{drop-cons, drop-drop, take_all, take-take, take-nil}
 use borrow.Author.Tests.{leb-true, le-leb}
 use Rattle.rules.specs.Basics.{has, part, number}
 use Rattle.rules.specs.Reading.{is_empty, size_of, whole}
+use Rattle.std.specs.Prelude.{Some, None}
 use Rattle.records.specs.Checking.{length_of, from}
 
 -- ---- numbers
@@ -119,31 +120,35 @@ is_whole s n e l h =
     rw (e, has_all 4 s p, le-leb 4 n l, has_all n s h)
 
 -- the length that the check goes by
-pub long : (s : List ℕ) (n : ℕ) → n ≡ length_of s → 4 ≤ n → Whole s n
+pub long : (s : List ℕ) {n : ℕ} → length_of s ≡ Some n → Whole s n
 unfolding length_of
-long s n e l = go (whole s) refl
+long s {n} e = go (whole s) refl
   where
     go : (w : Bool) → whole s ≡ w → Whole s n
-    go true q = let r = whole-record s q in let z : size_of s ≡ n = sym (e ∙ rw q) in record { is = q; size = z; low = l; high = rw z at r.high }
-    go false q = let z : n ≡ 0 = e ∙ rw q in absurd (omega arith)
+    go true q =
+        let r = whole-record s q in
+        let z : length_of s ≡ Some (size_of s) = rw q in
+        let y : size_of s ≡ n = cc in
+        record { is = q; size = y; low = rw y at r.low; high = rw y at r.high }
+    go false q = let z : length_of s ≡ None = rw q in cc
 
-pub short : (s : List ℕ) → length_of s < 4 → whole s ≡ false
+pub short : (s : List ℕ) → length_of s ≡ None → whole s ≡ false
 unfolding length_of
-short s h = go (whole s) refl
+short s e = go (whole s) refl
   where
     go : (w : Bool) → whole s ≡ w → whole s ≡ false
-    go true q = let r = whole-record s q in let z : length_of s ≡ size_of s = rw q in absurd (omega (arith, r.low))
+    go true q = let z : length_of s ≡ Some (size_of s) = rw q in cc
     go false q = q
 
 -- and how it is found
-pub length_none : (s : List ℕ) → (whole s ≡ true → ⊥) → 0 ≡ length_of s
+pub length_none : (s : List ℕ) → (whole s ≡ true → ⊥) → None ≡ length_of s
 unfolding length_of
 length_none s h = go (whole s) refl
   where
-    go : (w : Bool) → whole s ≡ w → 0 ≡ length_of s
+    go : (w : Bool) → whole s ≡ w → None ≡ length_of s
     go true q = absurd (h q)
     go false q = rw q
 
-pub length_some : (s : List ℕ) (n : ℕ) → n ≡ size_of s → 4 ≤ n → n ≤ length s → n ≡ length_of s
+pub length_some : (s : List ℕ) (n : ℕ) → n ≡ size_of s → 4 ≤ n → n ≤ length s → Some n ≡ length_of s
 unfolding length_of
-length_some s n e l h = rw (is_whole s n (sym e) l h) e
+length_some s n e l h = rw (is_whole s n (sym e) l h) (ap Some e)

@@ -2,7 +2,7 @@
 -- Assumes nothing.
 use Rattle.std.specs.Prelude.{if◌then◌else◌}
 use Prim.Native.Nat.{ℕ, ◌+◌, ◌-◌, ◌≤◌, ◌<◌}
-use mathlib.Core.Path.{◌≡◌, refl, sym, ap, subst, ◌∙◌}
+use mathlib.Core.Path.{◌≡◌, refl, sym, ap, ap₂, ◌∙◌}
 use mathlib.Core.Bool.{Bool, true, false}
 use mathlib.Core.List.{List, [], ◌∷◌}
 use native.Mathlib.Omega.{arith}
@@ -12,8 +12,13 @@ use lib.Seq.{drop-drop}
 use borrow.Author.Tests.{lt-ltb, le-ltb}
 use Rattle.rules.specs.Basics.{choose, has, part, number}
 use Rattle.rules.specs.Reading.{Reading, refused, read, Reader, after, ◌>>=◌, ◌>>◌, pure, refuse, in_range, field, closed, size_of, kind_of, whole, child}
-use Rattle.records.specs.Checking.{outcome, no_steps, ended, counted, added, onward, from, Within, ranged, pair}
-use Rattle.records.specs.declared.Checked.TheVariants.{Ok, Refused}
+use Rattle.std.specs.Prelude.{Result, Ok, Err, IsErr, IsErrAnd}
+use Rattle.std.proofs.lemmas.Result.{err_from_is_err_and}
+use Rattle.records.specs.declared.fault.Fault.{Fault}
+use Rattle.records.specs.declared.answers.Checked.{Checked}
+use Rattle.records.specs.declared.part.Part.{Part}
+use Rattle.records.specs.declared.part.Record.{Record}
+use Rattle.records.specs.Checking.{Answer, Opens, of_part, outcome, found, no_steps, ended, counted, added, onward, from, ranged, pair}
 use Rattle.records.proofs.Parts.{has-length, part_length, from-drop, Whole, whole-record}
 
 -- ---- how far a reader goes
@@ -183,26 +188,47 @@ module _ {A : Type 0} {count : A → ℕ} {body : ℕ → Reader A} (h : (kind :
 
 -- ---- what the check answers
 
-pub steady-within : {A : Type 0} {count : A → ℕ} {r : Reader A} → Steady 0 count r → (start at : ℕ) (s : List ℕ) → Within at (length s) (outcome count (r start at s))
-steady-within {A} {count} {r} h start at s = go (r start at s) refl
-  where
-    go : (q : Reading A) → r start at s ≡ q → Within at (length s) (outcome count q)
-    go (refused n p) e = tt
-    go (read a m l) e =
-        let x = h.moves start at s e in
-        (omega (arith, x.goes, x.pays), omega (arith, x.goes, x.fits))
+-- what a `?` hands on
+pub handed : {T E : Type 0} (r : Result T E) (e : E) → IsErr r × IsErrAnd r (λ y. y ≡ e) → r ≡ Err e
+handed r e h = let p = err_from_is_err_and r h.1 in rw (p.1, p.2)
 
 -- the reading behind an answer
-pub came : {A : Type 0} (count : A → ℕ) (q : Reading A) {m k : ℕ} → Ok m k ≡ outcome count q → (a : A) × (l : List ℕ) × (q ≡ read a m l) × (count a ≡ k)
-came count (refused n p) h = absurd (let z : ◌≡◌ {A = ℕ} 0 1 = cc in omega arith)
-came count (read a o l) {m} {k} h =
-    let i : o ≡ m = cc in
-    let j : count a ≡ k = cc in
+pub came : {A : Type 0} (count : A → ℕ) (q : Reading A) {c : Checked} → outcome count q ≡ Ok c → (a : A) × (l : List ℕ) × (q ≡ read a c.end l) × (count a ≡ c.steps)
+came count (refused n p) h = cc
+came count (read a m l) {c} h =
+    let i : m ≡ c.end = cc in
+    let j : count a ≡ c.steps = cc in
     (a, l, ap (λ (i : ℕ). read a i l) i, j)
 
-pub gone : {A : Type 0} (count : A → ℕ) (q : Reading A) {n p : ℕ} → Refused n p ≡ outcome count q → q ≡ refused n p
-gone count (refused m o) h = cc
-gone count (read a m l) h = absurd (let z : ◌≡◌ {A = ℕ} 0 1 = cc in omega arith)
+pub gone : {A : Type 0} (count : A → ℕ) (q : Reading A) {e : Fault} → outcome count q ≡ Err e → q ≡ refused e.number e.place
+gone count (refused n p) {e} h =
+    let i : n ≡ e.number = cc in
+    let j : p ≡ e.place = cc in
+    ap₂ (λ (n p : ℕ). refused n p) i j
+gone count (read a m l) h = cc
+
+pub no-steps : {A : Type 0} (q : Reading A) {c : Checked} → Ok c ≡ outcome no_steps q → c.steps ≡ 0
+no-steps q h = sym (came no_steps q (sym h)).3
+
+pub added_none : (k : ℕ) (a : Answer) → k ≡ 0 → a ≡ added k a
+added_none k (Ok c) h = ap (found c.end) (omega arith)
+added_none k (Err e) h = refl
+
+pub added_twice : (i k : ℕ) (a : Answer) → added i (added k a) ≡ added (i + k) a
+added_twice i k (Ok c) = ap (found c.end) (omega arith)
+added_twice i k (Err e) = refl
+
+-- where a reader ended that counts no more steps than bytes and k
+pub record Reached (k at n : ℕ) (c : Checked) : Type 0 where
+  pub low : at ≤ c.end
+  pub high : c.end ≤ at + n
+  pub pays : at + c.steps ≤ c.end + k
+
+pub reaches : {A : Type 0} {k : ℕ} {count : A → ℕ} {r : Reader A} → Steady k count r → (start at : ℕ) (s : List ℕ) {c : Checked} → Ok c ≡ outcome count (r start at s) → Reached k at (length s) c
+reaches {count = count} {r = r} h start at s e =
+    let q = came count (r start at s) (sym e) in
+    let x = h.moves start at s q.2 in
+    record { low = omega (arith, x.goes); high = omega (arith, x.goes, x.fits); pays = omega (arith, x.goes, x.pays, q.3) }
 
 -- the steps alone tell readings apart
 pub then-pure : {A B : Type 0} (count : B → ℕ) (g : A → B) (q : Reading A) → outcome count (after q (λ a m l. read (g a) m l)) ≡ outcome (λ a. count (g a)) q
@@ -218,19 +244,11 @@ then_same (read a m l) f g count cost h = h a m l
 
 pub counts : {A : Type 0} (count : A → ℕ) (k : ℕ) (q : Reading A) → ((a : A) → count a ≡ k) → outcome count q ≡ counted k (outcome no_steps q)
 counts count k (refused n p) h = refl
-counts count k (read a m l) h = ap (Ok m) (h a)
-
--- a reader that pays for k steps, counted as k
-pub counted-within : {A : Type 0} {r : Reader A} (k : ℕ) → Steady 0 (λ _. k) r → (start at : ℕ) (s : List ℕ) → Within at (length s) (counted k (outcome no_steps (r start at s)))
-counted-within {A} {r} k h start at s = subst (Within at (length s)) (counts (λ _. k) k (r start at s) (λ _. refl)) (steady-within h start at s)
-
-pub count_same : {A : Type 0} (count cost : A → ℕ) (q : Reading A) → ((a : A) → count a ≡ cost a) → outcome count q ≡ outcome cost q
-count_same count cost (refused n p) h = refl
-count_same count cost (read a m l) h = ap (Ok m) (h a)
+counts count k (read a m l) h = ap (found m) (h a)
 
 pub counts-more : {A : Type 0} (k : ℕ) (q : Reading A) → counted k (outcome no_steps q) ≡ added k (outcome no_steps q)
 counts-more k (refused n p) = refl
-counts-more k (read a m l) = ap (Ok m) (omega arith)
+counts-more k (read a m l) = ap (found m) (omega arith)
 
 -- one reader, and a second where it ended
 pub then-onward :
@@ -244,7 +262,7 @@ then-onward {A} {B} {C} {r} {k} {cost} h q steps count g w start at s = go (r st
   where
     sums : (a : A) (i : Reading B) → outcome count (after i (λ b m l. read (g a b) m l)) ≡ added (cost a) (outcome steps i)
     sums a (refused n p) = refl
-    sums a (read b m l) = ap (Ok m) (w a b)
+    sums a (read b m l) = ap (found m) (w a b)
 
     go : (i : Reading A) → r start at s ≡ i → outcome count (after i (λ a m l. after (q start m l) (λ b m l. read (g a b) m l))) ≡ onward steps q start at s (outcome cost i)
     go (refused n p) e = refl
@@ -262,9 +280,6 @@ module _ {A B : Type 0} {r : Reader A} {q : Reader B} {cost : A → ℕ} {steps 
   pub pair-onward : (start at : ℕ) (s : List ℕ) → outcome (λ (p : A × B). cost p.0 + steps p.1) (pair r q start at s) ≡ onward steps q start at s (outcome cost (r start at s))
   unfolding pair
   pair-onward start at s = then-onward h q steps (λ (p : A × B). cost p.0 + steps p.1) (λ a b. (a, b)) (λ a b. refl) start at s
-
-  pub pair-within : (start at : ℕ) (s : List ℕ) → Within at (length s) (onward steps q start at s (outcome cost (r start at s)))
-  pair-within start at s = subst (Within at (length s)) (pair-onward start at s) (steady-within steady-pair start at s)
 
 pub pair_then :
     {A B C : Type 0} (r : Reader A) (q : Reader B) (f : A → B → Reader C) (start at : ℕ) (s : List ℕ) →
@@ -323,10 +338,20 @@ child-ended {A} {k} {count} {body} h start at n kind s w e = rw (w.is, w.size, e
         let q : 0 ≡ length (part 4 n s) - x.by = ap length x.leaves ∙ length-drop x.by (part 4 n s) in
         let z : m ≡ at + n = omega (arith, x.goes, x.fits, w.low) in
         let v : at + n ≤ m = omega arith in
-        rw (le-ltb m (at + n) v) (ap (λ (i : ℕ). Ok i (count a)) z)
+        rw (le-ltb m (at + n) v) (ap (λ (i : ℕ). found i (count a)) z)
     go (read a m (b ∷ bs)) i =
         let x = (h (kind_of s)).moves at (at + 4) (part 4 n s) i in
         let p : length (part 4 n s) ≡ n - 4 = part_length 4 n s w.high in
         let q : length (b ∷ bs) ≡ length (part 4 n s) - x.by = ap length x.leaves ∙ length-drop x.by (part 4 n s) in
         let v : m < at + n = omega (arith, x.goes, x.fits, w.low) in
         rw (lt-ltb m (at + n) v)
+
+-- the same of a record that comes in a part
+pub child-opened :
+    {A : Type 0} {k : ℕ} {count : A → ℕ} {body : ℕ → Reader A} →
+    ((kind : ℕ) → Steady k count (body kind)) →
+    (p : Part) (r : Record) → Opens p r →
+    outcome count (of_part (child body) p) ≡ ended r.end (outcome count (of_part (body r.kind) r.body))
+child-opened h p r o =
+    let s = p.bytes.now in
+    rw (o.end, o.kind, o.start, o.at, o.bytes) (child-ended h p.start p.at (size_of s) (kind_of s) s (whole-record s o.is) refl)

@@ -1,26 +1,34 @@
 -- What the check makes of a statement record's body, by its kind, and of its parts.
 -- Assumes nothing.
-use Prim.Native.Nat.{ℕ, ◌+◌, ◌≤◌}
+use Prim.Native.Nat.{ℕ, ◌+◌, ◌≤◌, ◌<◌}
 use mathlib.Core.Path.{◌≡◌, refl, sym, ap, ◌∙◌}
-use mathlib.Core.Bool.{false}
+use mathlib.Core.Bool.{Bool, true, false}
+use mathlib.Core.Logic.{◌⊎◌, inl, inr}
 use mathlib.Core.List.{List}
 use native.Mathlib.Omega.{arith}
 use lib.ListN.{length}
-use borrow.Author.Tests.{ne_eqb}
+use lib.Dec.{eqb}
+use borrow.Author.Tests.{ne_eqb, eqb-true, eqb-false}
 use Rattle.rules.specs.Basics.{choose}
 use Rattle.rules.specs.Syntax.{Expr, Simple, set, transfer, require, return, Stmt, simple, block, if_then, if_else, while}
 use Rattle.rules.specs.Reading.{Reading, read, Reader, after, ◌>>=◌, pure, refuse, statements, expression, placed, set_body, simples, statement_body, loop_set, statement}
-use Rattle.records.specs.Checking.{outcome, no_steps, counted, onward, Within, ranged, pair}
-use Rattle.records.specs.Counting.{step_count, block_count, target, two, four, for_head}
-use Rattle.records.specs.declared.Checked.{Checked}
-use Rattle.records.specs.declared.Checked.TheVariants.{Ok, Refused}
-use Rattle.records.proofs.Readers.{Steady, steady-within, steady-pair, steady-ranged, then-pure, then_same, counts, then-onward, pair-onward, pair-within, pair_then, ranged-then}
+use Rattle.std.specs.Prelude.{Ok}
+use Rattle.records.specs.declared.answers.Checked.{Checked}
+use Rattle.records.specs.Checking.{Answer, outcome, found, refused_at, no_steps, counted, added, onward, ranged, pair}
+use Rattle.records.specs.Counting.{step_count, block_count, target, for_head}
+use Rattle.records.proofs.Readers.{Steady, Reached, reaches, steady-pair, steady-ranged, then-pure, then_same, counts, counts-more, then-onward, pair-onward, pair_then, ranged-then}
 use Rattle.records.proofs.ExpressionLaws.{steady-expression}
 use Rattle.records.proofs.StatementLaws.{steady-loop-set, steady-statement}
 use Rattle.records.proofs.StepCounts.{count-simple, count-if, count-else, count-while, count-for}
 
-one-step : (at : ℕ) (q : Reading Simple) → outcome step_count (after q (λ x m l. read (simple at x) m l)) ≡ counted 1 (outcome no_steps q)
-one-step at q = then-pure step_count (simple at) q ∙ counts (λ x. step_count (simple at x)) 1 q (count-simple at)
+abbrev two : {A : Type 0} → A → ℕ
+two a = 2
+
+abbrev four : {A : Type 0} → A → ℕ
+four a = 4
+
+one-step : (at : ℕ) (q : Reading Simple) → outcome step_count (after q (λ x m l. read (simple at x) m l)) ≡ added 1 (outcome no_steps q)
+one-step at q = then-pure step_count (simple at) q ∙ counts (λ x. step_count (simple at x)) 1 q (count-simple at) ∙ counts-more 1 q
 
 module _ (vars levels start at : ℕ) (s : List ℕ) where
   abbrev e : Reader Expr
@@ -45,74 +53,80 @@ module _ (vars levels start at : ℕ) (s : List ℕ) where
       ap (outcome no_steps) (ranged-then (target vars) (λ t. e >>= λ x. pure (set t x)) start at s)
       ∙ then-onward (steady-ranged {k = 0} (target vars)) e no_steps no_steps set (λ a b. refl) start at s
 
-  pub condition-within : Within at (length s) (outcome two (e start at s))
-  condition-within = steady-within (he 2 (omega arith)) start at s
+  pub transfer-onward : outcome no_steps (pair e e start at s) ≡ onward no_steps e start at s (outcome no_steps (e start at s))
+  transfer-onward = pair-onward (he 0 (omega arith)) (he 0 (omega arith)) start at s
 
-  pub part-within : Within at (length s) (onward step_count st start at s (outcome two (e start at s)))
-  part-within = pair-within (he 2 (omega arith)) (steady-statement vars levels) start at s
+  -- a condition, which pays for the two steps that are not a statement's
+  condition : outcome two (e start at s) ≡ counted 2 (outcome no_steps (e start at s))
+  condition = counts two 2 (e start at s) λ _. refl
 
-  -- a for's initial set, which pays for the four steps that are not its body's, and its condition
-  pub for-start : onward no_steps e start at s (counted 4 (outcome no_steps (l start at s))) ≡ outcome four (pair l e start at s)
-  for-start =
-      let next : Checked → Checked = onward no_steps e start at s in
-      ap next (sym (counts four 4 (l start at s) λ _. refl)) ∙ sym (pair-onward (hl 4 (omega arith)) (he 0 (omega arith)) start at s)
+  -- what stands before a for's body pays for the four steps that are not the body's
+  for-steady : Steady 0 four (for_head vars levels)
+  for-steady = steady-pair (steady-pair (hl 4 (omega arith)) (he 0 (omega arith))) (hl 0 (omega arith))
 
-  for-steady : Steady 0 four (pair l e)
-  for-steady = steady-pair (hl 4 (omega arith)) (he 0 (omega arith))
+  pub for-head : outcome no_steps (for_head vars levels start at s) ≡ onward no_steps l start at s (onward no_steps e start at s (outcome no_steps (l start at s)))
+  for-head =
+      let i = hl 0 (omega arith) in
+      let h = he 0 (omega arith) in
+      pair-onward (steady-pair i h) i start at s ∙ ap (onward no_steps l start at s) (pair-onward i h start at s)
 
-  pub for-start-within : Within at (length s) (outcome four (pair l e start at s))
-  for-start-within = steady-within for-steady start at s
+  -- where an if and a for's head end
+  pub if-reaches : {c : Checked} → Ok c ≡ onward step_count st start at s (counted 2 (outcome no_steps (e start at s))) → Reached 0 at (length s) c
+  if-reaches h =
+      let x = he 2 (omega arith) in
+      let y = steady-statement vars levels in
+      reaches (steady-pair x y) start at s (h ∙ ap (onward step_count st start at s) (sym condition) ∙ sym (pair-onward x y start at s))
 
-  pub for-head : outcome four (for_head vars levels start at s) ≡ onward no_steps l start at s (outcome four (pair l e start at s))
-  for-head = pair-onward for-steady (hl 0 (omega arith)) start at s
-
-  pub for-head-within : Within at (length s) (outcome four (for_head vars levels start at s))
-  for-head-within = steady-within (steady-pair for-steady (hl 0 (omega arith))) start at s
+  pub head-reaches : {c : Checked} → Ok c ≡ outcome no_steps (for_head vars levels start at s) → Reached 0 at (length s) c
+  head-reaches h = reaches (steady-pair (steady-pair (hl 0 (omega arith)) (he 0 (omega arith))) (hl 0 (omega arith))) start at s h
 
   -- ---- what the check makes of each kind
 
   module _ (kind : ℕ) where
-    abbrev answer : Checked
+    abbrev answer : Answer
     answer = outcome step_count (statement_body vars e l st kind start at s)
 
-    pub set_is : kind ≡ 16 → answer ≡ counted 1 (outcome no_steps (set_body vars e start at s))
+    pub set_is : kind ≡ 16 → answer ≡ added 1 (outcome no_steps (set_body vars e start at s))
     unfolding statement_body simples placed choose
     set_is k = rw k (one-step start (set_body vars e start at s))
 
-    pub transfer-is : kind ≡ 17 → answer ≡ counted 1 (outcome no_steps (pair e e start at s))
+    pub transfer-is : kind ≡ 17 → answer ≡ added 1 (outcome no_steps (pair e e start at s))
     unfolding statement_body simples placed choose pair
     transfer-is k =
         let one : Expr → (m : ℕ) (b : List ℕ) → Reading Simple = λ x m b. after (e start m b) (λ y m b. read (transfer x y) m b) in
         let two : Expr → (m : ℕ) (b : List ℕ) → Reading (Expr × Expr) = λ x m b. after (e start m b) (λ y m b. read (x, y) m b) in
         rw k
         (one-step start ((e >>= λ x. e >>= λ y. pure (transfer x y)) start at s)
-        ∙ ap (counted 1) (then_same (e start at s) one two no_steps no_steps λ x m b. then-pure no_steps (transfer x) (e start m b) ∙ sym (then-pure no_steps (λ y. (x, y)) (e start m b))))
+        ∙ ap (added 1) (then_same (e start at s) one two no_steps no_steps λ x m b. then-pure no_steps (transfer x) (e start m b) ∙ sym (then-pure no_steps (λ y. (x, y)) (e start m b))))
 
-    pub require-is : kind ≡ 18 → answer ≡ counted 1 (outcome no_steps (e start at s))
+    -- a require and a return
+    pub value-is : 18 ≤ kind → kind < 20 → answer ≡ added 1 (outcome no_steps (e start at s))
     unfolding statement_body simples placed choose
-    require-is k = rw k (one-step start ((e >>= λ x. pure (require x)) start at s) ∙ ap (counted 1) (then-pure no_steps require (e start at s)))
-
-    pub return-is : kind ≡ 19 → answer ≡ counted 1 (outcome no_steps (e start at s))
-    unfolding statement_body simples placed choose
-    return-is k = rw k (one-step start ((e >>= λ x. pure (return x)) start at s) ∙ ap (counted 1) (then-pure no_steps return (e start at s)))
+    value-is l h = go (eqb kind 18) refl
+      where
+        go : (b : Bool) → eqb kind 18 ≡ b → answer ≡ added 1 (outcome no_steps (e start at s))
+        go true q =
+            let k = eqb-true kind 18 q in
+            rw k (one-step start ((e >>= λ x. pure (require x)) start at s) ∙ ap (added 1) (then-pure no_steps require (e start at s)))
+        go false q =
+            let k : kind ≡ 19 = omega (arith, eqb-false kind 18 q) in
+            rw k (one-step start ((e >>= λ x. pure (return x)) start at s) ∙ ap (added 1) (then-pure no_steps return (e start at s)))
 
     pub block-is : kind ≡ 32 → answer ≡ outcome block_count (statements (length s) st start at s)
     unfolding statement_body simples placed choose
     block-is k = rw k (then-pure step_count block (statements (length s) st start at s))
 
     -- a statement after c
-    abbrev next : Checked → Checked
+    abbrev next : Answer → Answer
     next = onward step_count st start at s
 
-    pub if-is : kind ≡ 33 → answer ≡ next (outcome two (e start at s))
+    -- an if and a while
+    pub if-is : (kind ≡ 33) ⊎ (kind ≡ 35) → answer ≡ next (counted 2 (outcome no_steps (e start at s)))
     unfolding statement_body simples placed choose
-    if-is k = rw k (then-onward (he 2 (omega arith)) st step_count step_count (if_then at) (count-if at) start at s)
+    if-is (inl k) = rw k (then-onward (he 2 (omega arith)) st step_count step_count (if_then at) (count-if at) start at s ∙ ap next condition)
+    if-is (inr k) = rw k (then-onward (he 2 (omega arith)) st step_count step_count (while at) (count-while at) start at s ∙ ap next condition)
 
-    pub while-is : kind ≡ 35 → answer ≡ next (outcome two (e start at s))
-    unfolding statement_body simples placed choose
-    while-is k = rw k (then-onward (he 2 (omega arith)) st step_count step_count (while at) (count-while at) start at s)
-
-    pub else_is : kind ≡ 34 → answer ≡ next (next (outcome two (e start at s)))
+    pub else_is : kind ≡ 34 → answer ≡ next (next (counted 2 (outcome no_steps (e start at s))))
     unfolding statement_body simples placed choose
     else_is k =
         let h = he 2 (omega arith) in
@@ -120,9 +134,9 @@ module _ (vars levels start at : ℕ) (s : List ℕ) where
         rw k
         (ap (outcome step_count) (pair_then e st (λ x y. st >>= λ z. pure (if_else at x y z)) start at s)
         ∙ then-onward (steady-pair h i) st step_count step_count (λ p z. if_else at p.0 p.1 z) (λ p z. count-else at p.0 p.1 z) start at s
-        ∙ ap next (pair-onward h i start at s))
+        ∙ ap next (pair-onward h i start at s ∙ ap next condition))
 
-    pub for-is : kind ≡ 36 → answer ≡ next (outcome four (for_head vars levels start at s))
+    pub for-is : kind ≡ 36 → answer ≡ next (counted 4 (outcome no_steps (for_head vars levels start at s)))
     unfolding statement_body simples placed choose
     for-is k =
         let more : Stmt → ℕ = λ y. 4 + step_count y in
@@ -133,14 +147,14 @@ module _ (vars levels start at : ℕ) (s : List ℕ) where
         (then_same (l start at s) _ (λ _. condition) step_count more (λ i m b.
         then_same (e start m b) _ (λ _. closing) step_count more λ x n c.
         then_same (l start n c) _ (λ _. body) step_count more λ k o d.
-        then_same (st start o d) _ (λ y m b. read y m b) step_count more λ y p f. ap (Ok p) (count-for at i m x n k y))
+        then_same (st start o d) _ (λ y m b. read y m b) step_count more λ y p f. ap (found p) (count-for at i m x n k y))
         ∙ ap (outcome more) (pair_then l e (λ i x. l >>= λ k. st >>= λ y. pure y) start at s ∙ pair_then (pair l e) l (λ p k. st >>= λ y. pure y) start at s)
-        ∙ then-onward (steady-pair for-steady (hl 0 (omega arith))) st step_count more (λ p y. y) (λ p y. refl) start at s)
+        ∙ then-onward for-steady st step_count more (λ p y. y) (λ p y. refl) start at s ∙ ap next (counts four 4 (for_head vars levels start at s) λ _. refl))
 
     pub other-is :
         (kind ≡ 16 → ⊥) → (kind ≡ 17 → ⊥) → (kind ≡ 18 → ⊥) → (kind ≡ 19 → ⊥) →
-        (kind ≡ 32 → ⊥) → (kind ≡ 33 → ⊥) → (kind ≡ 34 → ⊥) → (kind ≡ 35 → ⊥) → (kind ≡ 36 → ⊥) →
-        answer ≡ Refused 3 start
+        (kind ≡ 32 → ⊥) → ((kind ≡ 33) ⊎ (kind ≡ 35) → ⊥) → (kind ≡ 34 → ⊥) → (kind ≡ 36 → ⊥) →
+        answer ≡ refused_at 3 start
     unfolding statement_body simples placed choose refuse
-    other-is a b c d f g h i j =
-        simp (ne_eqb _ _ a, ne_eqb _ _ b, ne_eqb _ _ c, ne_eqb _ _ d, ne_eqb _ _ f, ne_eqb _ _ g, ne_eqb _ _ h, ne_eqb _ _ i, ne_eqb _ _ j)
+    other-is a b c d f g h j =
+        simp (ne_eqb _ _ a, ne_eqb _ _ b, ne_eqb _ _ c, ne_eqb _ _ d, ne_eqb _ _ f, ne_eqb _ _ (λ k. g (inl k)), ne_eqb _ _ h, ne_eqb _ _ (λ k. g (inr k)), ne_eqb _ _ j)

@@ -1,7 +1,7 @@
 -- Laws of the reading of statements: how far it goes, and what the check makes of a record by its length, level and kind.
 -- Assumes nothing.
-use Prim.Native.Nat.{ℕ, zero, suc, ◌+◌, ◌-◌, ◌≤◌}
-use mathlib.Core.Path.{◌≡◌, refl, sym}
+use Prim.Native.Nat.{ℕ, zero, suc, ◌-◌, ◌≤◌}
+use mathlib.Core.Path.{◌≡◌, refl}
 use mathlib.Core.Bool.{true, false}
 use mathlib.Core.List.{List}
 use native.Mathlib.Omega.{arith}
@@ -9,17 +9,17 @@ use native.Mathlib.Numerals.{sub-one}
 use lib.Dec.{eqb}
 use lib.ListN.{length}
 use borrow.Author.Tests.{ne_eqb}
-use Rattle.rules.specs.Basics.{part}
 use Rattle.rules.specs.Syntax.{Expr, Simple, set, transfer, require, return}
 use Rattle.rules.specs.Syntax.{Stmt, simple, block, if_then, if_else, while, for, last, ◌then◌}
-use Rattle.rules.specs.Reading.{refused, Reader, ◌>>=◌, ◌>>◌, pure, self, is_empty, refuse, kind_of, whole, only}
+use Rattle.rules.specs.Reading.{refused, Reader, ◌>>=◌, pure, self, is_empty, refuse, kind_of, whole, only}
 use Rattle.rules.specs.Reading.{statements, expression, placed, set_body, simples, statement_body, loop_set, statement}
-use Rattle.records.specs.Checking.{outcome, no_steps, ended}
+use Rattle.records.specs.declared.part.Part.{Part}
+use Rattle.records.specs.declared.part.Record.{Record}
+use Rattle.records.specs.Checking.{Opens, of_part, outcome, no_steps, ended}
 use Rattle.records.specs.Counting.{step_count, block_count, target}
-use Rattle.records.proofs.Parts.{Whole}
 use Rattle.records.proofs.Readers.{Steady, steady-pure, steady-refuse, steady-first, steady-other, steady-peek, steady-if, steady-range, steady-field, steady_then, steady-child}
 use Rattle.records.proofs.Inversion.{Ends, ends-child, ends-never}
-use Rattle.records.proofs.Readers.{child-short, child-refuses, child-ended}
+use Rattle.records.proofs.Readers.{child-short, child-refuses, child-opened}
 use Rattle.records.proofs.ExpressionLaws.{steady-expression}
 use Rattle.records.proofs.StepCounts.{count-simple, count-last, count-more, count-if, count-else, count-while, count-for}
 
@@ -34,7 +34,7 @@ steady-statements h (suc n) =
     (steady_then (steady-statements h n) λ xs. steady-pure (x then xs) (omega (arith, count-more x xs)))
 
 module _ (vars : ℕ) where
-  steady-set : {k : ℕ} {e : Reader Expr} (c : ℕ) → c ≤ k → Steady 0 no_steps e → Steady k (λ _. c) (set_body vars e)
+  pub steady-set : {k : ℕ} {e : Reader Expr} (c : ℕ) → c ≤ k → Steady 0 no_steps e → Steady k (λ _. c) (set_body vars e)
   unfolding set_body
   steady-set c few h =
       steady_then (steady-field 2) λ t. steady_then (steady-range (target vars t)) λ _. steady_then h λ x. steady-pure (set t x) (omega arith)
@@ -51,7 +51,7 @@ module _ (vars : ℕ) where
   steady-simple : {r : Reader Simple} → Steady 0 no_steps r → Steady 4 step_count (self >>= λ a. r >>= λ x. pure (simple a x))
   steady-simple h = steady_then (steady-peek λ start at left. start) λ a. steady_then h λ x. steady-pure (simple a x) (omega (arith, count-simple a x))
 
-  steady-body :
+  pub steady-body :
       {e : Reader Expr} {l : Reader Simple} {s : Reader Stmt} →
       Steady 0 no_steps e → Steady 0 no_steps l → Steady 0 step_count s → (kind : ℕ) → Steady 4 step_count (statement_body vars e l s kind)
   unfolding statement_body simples placed
@@ -103,17 +103,6 @@ module _ (vars : ℕ) where
     loop-set-kind zero e h k = absurd (e refl)
     loop-set-kind (suc levels) e h k = child-refuses _ _ _ _ _ _ h (rw (ne_eqb _ _ k))
 
-    pub loop-set-ended :
-        (levels n : ℕ) →
-        (levels ≡ 0 → ⊥) →
-        Whole bs n →
-        kind_of bs ≡ 16 →
-        outcome no_steps (loop_set vars levels start at bs) ≡ ended (at + n) (outcome no_steps (set_body vars (expression vars false (levels - 1)) at (at + 4) (part 4 n bs)))
-    unfolding loop_set only
-    loop-set-ended zero n e w k = absurd (e refl)
-    loop-set-ended (suc levels) n e w k =
-        rw sub-one (child-ended (steady-only 0 (omega arith) (steady-expression vars false levels 0 (omega arith))) start at n 16 bs w (sym k))
-
     pub statement-short : (levels : ℕ) → whole bs ≡ false → statement vars levels start at bs ≡ refused 2 at
     unfolding statement
     statement-short zero h = child-short _ _ _ _ h
@@ -123,15 +112,24 @@ module _ (vars : ℕ) where
     unfolding statement refuse
     statement-deep levels e h = rw e (child-refuses _ _ _ _ _ _ h refl)
 
+  module _ (p : Part) (r : Record) (o : Opens p r) where
+    pub loop-set-ended :
+        (levels : ℕ) → (levels ≡ 0 → ⊥) → r.kind ≡ 16 →
+        outcome no_steps (of_part (loop_set vars levels) p) ≡ ended r.end (outcome no_steps (of_part (set_body vars (expression vars false (levels - 1))) r.body))
+    unfolding loop_set only
+    loop-set-ended zero e k = absurd (e refl)
+    loop-set-ended (suc levels) e k =
+        let h : (kind : ℕ) → Steady 4 no_steps (only 16 (set_body vars (expression vars false levels)) kind) = steady-only 0 (omega arith) (steady-expression vars false levels 0 (omega arith)) in
+        rw (sub-one, child-opened h p r o, k)
+
     pub statement-ended :
-        (levels n kind : ℕ) →
-        (levels ≡ 0 → ⊥) →
-        Whole bs n →
-        kind ≡ kind_of bs →
-        outcome step_count (statement vars levels start at bs)
-        ≡ ended (at + n) (outcome step_count (statement_body vars (expression vars false (levels - 1)) (loop_set vars (levels - 1)) (statement vars (levels - 1)) kind at (at + 4) (part 4 n bs)))
+        (levels : ℕ) → (levels ≡ 0 → ⊥) →
+        outcome step_count (of_part (statement vars levels) p)
+        ≡ ended r.end
+        (outcome step_count
+        (of_part (statement_body vars (expression vars false (levels - 1)) (loop_set vars (levels - 1)) (statement vars (levels - 1)) r.kind) r.body))
     unfolding statement
-    statement-ended zero n kind e w k = absurd (e refl)
-    statement-ended (suc levels) n kind e w k =
+    statement-ended zero e = absurd (e refl)
+    statement-ended (suc levels) e =
         rw sub-one
-        (child-ended (steady-body (steady-expression vars false levels 0 (omega arith)) (steady-loop-set levels 0 (omega arith)) (steady-statement levels)) start at n kind bs w k)
+        (child-opened (steady-body (steady-expression vars false levels 0 (omega arith)) (steady-loop-set levels 0 (omega arith)) (steady-statement levels)) p r o)

@@ -16,12 +16,6 @@ block_count ss = step_count (block ss)
 abbrev pub target : (vars t : ℕ) → Bool
 target vars t = ltb t vars || leb 256 t && ltb t 264
 
-abbrev pub two : {A : Type 0} → A → ℕ
-two a = 2
-
-abbrev pub four : {A : Type 0} → A → ℕ
-four a = 4
-
 -- "for (initial set, condition, closing set, body)", up to the body
 abbrev pub for_head : (vars levels : ℕ) → Reader ((Simple × Expr) × Simple)
 for_head vars levels = pair (pair (loop_set vars levels) (expression vars false levels)) (loop_set vars levels)

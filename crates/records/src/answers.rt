@@ -1,31 +1,39 @@
-// Operations on what checking finds.
-ghost use Rattle.std.specs.Prelude.{◌≡◌};
-ghost use Rattle.records.specs.Checking.{ended, counted as counted_of};
+// What checking finds. This serves our own crates only: a caller has to see that numbers fit.
+ghost use Rattle.std.specs.Prelude.{◌≡◌, ◌+◌, ◌^◌, ◌<◌, Ok};
+ghost use Rattle.records.specs.Checking.{ended};
 
-use crate::Checked;
+use crate::fault::{Fault, refused};
 
-// A record ends at `end`, and what is in it as c says: bytes left over are refused.
-pub fn close(end: usize, c: Checked) -> Checked
-    ensures { result ≡ ended end c }
-{
-    match c {
-        Checked::Refused(k, p) => Checked::Refused(k, p),
-        Checked::Ok(m, steps) => {
-            if m < end {
-                Checked::Refused(2, m)
-            } else {
-                Checked::Ok(end, steps)
-            }
-        }
-    }
+// The offset after what was read, and its number of steps.
+#[derive(Clone, Copy, PartialEq, Eq)]
+pub struct Checked {
+    pub end: usize,
+    pub steps: usize,
 }
 
-// What c read counts so many steps.
-pub fn counted(steps: usize, c: Checked) -> Checked
-    ensures { result ≡ counted_of steps c }
-{
-    match c {
-        Checked::Refused(k, p) => Checked::Refused(k, p),
-        Checked::Ok(m, _) => Checked::Ok(m, steps),
+impl Checked {
+    // So many steps more.
+    pub fn more(self, steps: usize) -> Checked
+        requires { steps + self.steps < 2 ^ 64 }
+        ensures { (result.end ≡ self.end) × (result.steps ≡ steps + self.steps) }
+    {
+        Checked {
+            end: self.end,
+            steps: steps + self.steps,
+        }
+    }
+
+    // A record ends at `end`, and this is what is in it: bytes left over are refused.
+    pub fn closed(self, end: usize) -> Result<Checked, Fault>
+        ensures { result ≡ ended end (Ok self) }
+    {
+        if self.end < end {
+            Err(refused(2, self.end))
+        } else {
+            Ok(Checked {
+                end,
+                steps: self.steps,
+            })
+        }
     }
 }

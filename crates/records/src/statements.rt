@@ -1,125 +1,92 @@
-// The check of a statement record. This serves our own crates only: a caller has to see that offsets fit 32 bits.
-// Where a function takes a record's body b, at is the record's offset, 4 bytes before; else the bytes s start at `at`.
-ghost use Rattle.std.specs.Prelude.{◌≡◌, false, ℕ, ◌+◌, ◌^◌, ◌<◌, length};
+// The check of a statement record.
+ghost use Rattle.std.specs.Prelude.{◌≡◌, false, length};
 ghost use Rattle.rules.specs.Reading.{expression, loop_set, statements, statement_body, statement};
-ghost use Rattle.records.specs.Checking.{outcome, no_steps, onward, Within, pair};
-ghost use Rattle.records.specs.Counting.{step_count, block_count, two, four, for_head};
+ghost use Rattle.records.specs.Checking.{outcome, of_part, no_steps, counted, onward, pair};
+ghost use Rattle.records.specs.Counting.{step_count, block_count, for_head};
 
-use crate::Checked;
-use crate::answers::{close, counted};
-use crate::bytes::{record_len, u16_at};
-use crate::expressions::{check_expression, then_expression};
-use crate::sets::{check_loop_set, check_set, then_loop_set};
+use crate::answers::Checked;
+use crate::expressions::check_value;
+use crate::fault::{Fault, refused};
+use crate::part::Part;
+use crate::sets::{check_loop_set, check_set};
 
 #[cycle(statement)]
-pub fn check_statement(s: &[u8], at: usize, levels: usize, vars: usize) -> Checked
-    requires { at + length s.now < 2 ^ 32 }
-    ensures { (start : ℕ) → result ≡ outcome step_count (statement vars levels start at s.now) }
+pub fn check_statement(p: Part, levels: usize, variables: usize) -> Result<Checked, Fault>
+    ensures { result ≡ outcome step_count (of_part (statement variables levels) p.entry) }
 {
-    let n = record_len(s);
-    if n < 4 {
-        return Checked::Refused(2, at);
-    }
+    let record = p.record()?;
     if levels == 0 {
-        return Checked::Refused(5, at);
+        return Err(refused(5, p.at));
     }
-    let kind = u16_at(s, 2);
-    close(at + n, check_body(&s[4..n], kind, at, levels - 1, vars))
+    check_body(record.body, record.kind, levels - 1, variables)?.closed(record.end)
 }
 
 #[cycle(statement)]
-fn check_body(b: &[u8], kind: usize, at: usize, levels: usize, vars: usize) -> Checked
-    requires { at + 4 + length b.now < 2 ^ 32 }
-    ensures { result ≡ outcome step_count (statement_body vars (expression vars false levels) (loop_set vars levels) (statement vars levels) kind at (at + 4) b.now) }
+fn check_body(b: Part, kind: usize, levels: usize, variables: usize) -> Result<Checked, Fault>
+    ensures { result ≡ outcome step_count (of_part (statement_body variables (expression variables false levels) (loop_set variables levels) (statement variables levels) kind) b.entry) }
 {
-    let from = at + 4;
+    // The kinds stay the file's numbers: the rules name them so.
     match kind {
-        16 => counted(1, check_set(b, at, levels, vars)),
-        17 => counted(1, check_transfer(b, from, levels, vars)),
-        18 => counted(1, check_expression(b, from, levels, vars, false)),
-        19 => counted(1, check_expression(b, from, levels, vars, false)),
-        32 => check_block(b, from, levels, vars),
-        33 | 35 => check_if(b, from, levels, vars),
-        34 => then_statement(b, from, check_if(b, from, levels, vars), levels, vars),
-        36 => then_statement(b, from, check_for_head(b, from, levels, vars), levels, vars),
-        _ => Checked::Refused(3, at),
+        16 => Ok(check_set(b, levels, variables)?.more(1)),
+        17 => Ok(check_transfer(b, levels, variables)?.more(1)),
+        18 | 19 => Ok(check_value(b, levels, variables)?.more(1)),
+        32 => check_block(b, levels, variables),
+        33 | 35 => check_if(b, levels, variables),
+        34 => {
+            let first = check_if(b, levels, variables)?;
+            let second = check_statement(b.after(first), levels, variables)?;
+            Ok(second.more(first.steps))
+        }
+        36 => {
+            let head = check_for_head(b, levels, variables)?;
+            let body = check_statement(b.after(head), levels, variables)?;
+            Ok(body.more(4))
+        }
+        _ => Err(refused(3, b.start)),
     }
 }
 
-// A condition and a statement: an if, a while, and the first part of an if-else.
+// A condition, which is two steps, and a statement: an if, a while, and the first part of an if-else.
 #[cycle(statement)]
-fn check_if(s: &[u8], at: usize, levels: usize, vars: usize) -> Checked
-    requires { at + length s.now < 2 ^ 32 }
-    ensures { (start : ℕ) → result ≡ onward step_count (statement vars levels) start at s.now (outcome two (expression vars false levels start at s.now)) }
+fn check_if(b: Part, levels: usize, variables: usize) -> Result<Checked, Fault>
+    ensures { result ≡ onward step_count (statement variables levels) b.entry.start b.entry.at b.entry.bytes.now (counted 2 (outcome no_steps (of_part (expression variables false levels) b.entry))) }
 {
-    then_statement(s, at, check_condition(s, at, levels, vars), levels, vars)
+    let condition = check_value(b, levels, variables)?;
+    let then = check_statement(b.after(condition), levels, variables)?;
+    Ok(then.more(2))
 }
 
-// One or more statements up to the end of s.
+// One or more statements up to the end of the record.
 #[cycle(statement)]
-fn check_block(s: &[u8], at: usize, levels: usize, vars: usize) -> Checked
-    requires { at + length s.now < 2 ^ 32 }
-    ensures { (start : ℕ) → result ≡ outcome block_count (statements (length s.now) (statement vars levels) start at s.now) }
+fn check_block(b: Part, levels: usize, variables: usize) -> Result<Checked, Fault>
+    ensures { result ≡ outcome block_count (of_part (statements (length b.entry.bytes.now) (statement variables levels)) b.entry) }
 {
-    let mut i = 0;
+    // No `for`: a statement says where the next begins, and the first is read even where the record is empty.
+    let mut rest = b;
     let mut steps = 0;
     loop {
-        match check_statement(&s[i..], at + i, levels, vars) {
-            Checked::Refused(k, p) => {
-                return Checked::Refused(k, p);
-            }
-            Checked::Ok(m, k) => {
-                i = m - at;
-                steps += k;
-                if s.len() <= i {
-                    return Checked::Ok(m, steps);
-                }
-            }
+        let read = check_statement(rest, levels, variables)?.more(steps);
+        rest = rest.after(read);
+        if rest.bytes.is_empty() {
+            return Ok(read);
         }
-    }
-}
-
-// c was read from s at `at`; a statement follows it.
-#[cycle(statement)]
-pub fn then_statement(s: &[u8], at: usize, c: Checked, levels: usize, vars: usize) -> Checked
-    requires { (at + length s.now < 2 ^ 32) × Within at (length s.now) c }
-    ensures { (start : ℕ) → result ≡ onward step_count (statement vars levels) start at s.now c }
-{
-    match c {
-        Checked::Refused(k, p) => Checked::Refused(k, p),
-        Checked::Ok(m, steps) => {
-            let i = m - at;
-            match check_statement(&s[i..], m, levels, vars) {
-                Checked::Refused(k, p) => Checked::Refused(k, p),
-                Checked::Ok(n, more) => Checked::Ok(n, steps + more),
-            }
-        }
+        steps = read.steps;
     }
 }
 
 // A transfer's account and amount.
-fn check_transfer(s: &[u8], at: usize, levels: usize, vars: usize) -> Checked
-    requires { at + length s.now < 2 ^ 32 }
-    ensures { (start : ℕ) → result ≡ outcome no_steps (pair (expression vars false levels) (expression vars false levels) start at s.now) }
+fn check_transfer(b: Part, levels: usize, variables: usize) -> Result<Checked, Fault>
+    ensures { result ≡ outcome no_steps (of_part (pair (expression variables false levels) (expression variables false levels)) b.entry) }
 {
-    let account = check_expression(s, at, levels, vars, false);
-    then_expression(s, at, account, levels, vars, false)
+    let account = check_value(b, levels, variables)?;
+    check_value(b.after(account), levels, variables)
 }
 
-// The condition of an if, an if-else or a while, which is two steps.
-fn check_condition(s: &[u8], at: usize, levels: usize, vars: usize) -> Checked
-    requires { at + length s.now < 2 ^ 32 }
-    ensures { (start : ℕ) → result ≡ outcome two (expression vars false levels start at s.now) }
+// What stands before a for's body, which adds four steps: its sets are a step each, and its condition, between them, is two.
+fn check_for_head(b: Part, levels: usize, variables: usize) -> Result<Checked, Fault>
+    ensures { result ≡ outcome no_steps (of_part (for_head variables levels) b.entry) }
 {
-    counted(2, check_expression(s, at, levels, vars, false))
-}
-
-// What stands before a for's body: two sets of a step each, and between them the condition, which is two steps.
-fn check_for_head(s: &[u8], at: usize, levels: usize, vars: usize) -> Checked
-    requires { at + length s.now < 2 ^ 32 }
-    ensures { (start : ℕ) → result ≡ outcome four (for_head vars levels start at s.now) }
-{
-    let initial = counted(4, check_loop_set(s, at, levels, vars));
-    let condition = then_expression(s, at, initial, levels, vars, false);
-    then_loop_set(s, at, condition, levels, vars)
+    let initial = check_loop_set(b, levels, variables)?;
+    let condition = check_value(b.after(initial), levels, variables)?;
+    check_loop_set(b.after(condition), levels, variables)
 }

@@ -16,17 +16,17 @@ first_repeat-requires c =
 pub refused-requires : goal.refused-requires
 refused-requires c =
     let t = c.requires in
-    let e = repeat-some (first_repeat [] t.tree.transitions) (sym c.in-At.is ∙ c.first_repeat.ensures t) in
+    let e = repeat-some (first_repeat [] t.tree.transitions) (sym c.in-Some.is ∙ c.first_repeat.ensures t) in
     omega (arith, repeat-small t _ e)
 
-pub returns-in-At : goal.returns-in-At
+pub returns-in-Some : goal.returns-in-Some
 unfolding accept on_file given
-returns-in-At c = λ a q.
-    let e = repeat-some (first_repeat [] a.tree.transitions) (sym c.in-At.is ∙ c.first_repeat.ensures a) in
+returns-in-Some c = λ a q.
+    let e = repeat-some (first_repeat [] a.tree.transitions) (sym c.in-Some.is ∙ c.first_repeat.ensures a) in
     rw (c.refused.ensures, e)
 
-pub returns-in-Nowhere : goal.returns-in-Nowhere
+pub returns-in-None : goal.returns-in-None
 unfolding accept given
-returns-in-Nowhere c = λ a q.
-    let e = repeat-none (first_repeat [] a.tree.transitions) (sym c.in-Nowhere.is ∙ c.first_repeat.ensures a) in
+returns-in-None c = λ a q.
+    let e = repeat-none (first_repeat [] a.tree.transitions) (sym c.in-None.is ∙ c.first_repeat.ensures a) in
     rw e (c.sized.ensures a.tree (c.opening_sum.ensures ∙ ap (λ (f : Fields). sum f.opening) (c.fields.ensures a)) q)

@@ -12,22 +12,22 @@ pub refused-requires : goal.refused-requires
 refused-requires c =
     let e =
     gone tree_steps (read_tree c.args.file.now)
-    (sym c.in-Refused.is ∙ c.check_file.ensures) in
+    (sym c.check_file.ensures ∙ c.in-Err.is) in
     omega (arith, place-small _ _ _ e)
 
 pub accepted-requires : goal.accepted-requires
 accepted-requires c =
     let e =
     came tree_steps (read_tree c.args.file.now)
-    (sym c.in-Ok.is ∙ c.check_file.ensures) in
+    (sym c.check_file.ensures ∙ c.in-Ok.is) in
     record { tree = e.0; to = _; left = e.1; is = e.2 }
 
-pub returns-in-Refused : goal.returns-in-Refused
+pub returns-in-Err : goal.returns-in-Err
 unfolding read_file file_of accepted on_file
-returns-in-Refused c =
+returns-in-Err c =
     let e =
     gone tree_steps (read_tree c.args.file.now)
-    (sym c.in-Refused.is ∙ c.check_file.ensures) in
+    (sym c.check_file.ensures ∙ c.in-Err.is) in
     rw (c.refused.ensures, e)
 
 pub returns-in-Ok : goal.returns-in-Ok
@@ -35,5 +35,5 @@ unfolding read_file file_of accepted on_file
 returns-in-Ok c =
     let e =
     came tree_steps (read_tree c.args.file.now)
-    (sym c.in-Ok.is ∙ c.check_file.ensures) in
+    (sym c.check_file.ensures ∙ c.in-Ok.is) in
     rw e.2 (c.accepted.ensures (record { tree = e.0; to = _; left = e.1; is = e.2 }) (sym e.3))

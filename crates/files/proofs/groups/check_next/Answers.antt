@@ -1,36 +1,27 @@
 -- `check_next` meets its contract.
-use mathlib.Core.Path.{sym, ap}
+use Prim.Native.Nat.{ℕ}
 use native.Mathlib.Omega.{arith}
-use Rattle.records.specs.Checking.{outcome}
-use Rattle.records.proofs.Parts.{part_length, long, short}
-use Rattle.files.specs.Members.{names_in, member, itself}
+use Rattle.records.proofs.Readers.{handed, Steady, reaches}
+use Rattle.files.specs.declared.limits.Limits.{Limits}
+use Rattle.files.specs.Members.{names_in, member_of, itself}
 use Rattle.files.proofs.Steadies.{steady-member}
 use Rattle.files.proofs.GroupLaws.{another-short, another-many, another-ended}
 use Rattle.files.proofs.groups.check_next.Goals as goal
 
-pub returns-then-n-lt4 : goal.returns-then-n-lt4
-returns-then-n-lt4 c = λ start.
-    let a = c.args in
-    let body = member a.states a.vars a.accounts (names_in 64 a.ts.now) a.kind in
-    sym (ap (outcome itself) (another-short body start a.at a.s.now a.left (short a.s.now (omega arith))))
+steady : (l : Limits) (kind : ℕ) → Steady 4 itself (member_of l kind)
+steady l kind = steady-member l.states l.variables l.accounts (names_in 64 l.transitions.now) kind
+
+pub returns-in_err-record : goal.returns-in_err-record
+returns-in_err-record c =
+    let r = c.in_err-record.ensures in
+    rw (handed _ _ c.from_residual.ensures, r.1, another-short _ _ _ _ _ r.0)
 
 pub returns-then-left-eq0 : goal.returns-then-left-eq0
-returns-then-left-eq0 c = λ start.
-    let a = c.args in
-    let body = member a.states a.vars a.accounts (names_in 64 a.ts.now) a.kind in
-    let w = long a.s.now _ c.record_len-n.ensures.0 (omega arith) in
-    sym (ap (outcome itself) (another-many body start a.at a.s.now a.left c.if-left-eq0.true w.is))
+returns-then-left-eq0 c = rw (c.refused.ensures, another-many _ _ _ _ _ c.if-left-eq0.true c.in_ok-record.ensures.is)
 
-pub check_member-requires : goal.check_member-requires
-check_member-requires c =
-    omega (arith, part_length 4 c.record_len-n.result c.args.s.now c.record_len-n.ensures.1)
+pub returns-in_err-check_member : goal.returns-in_err-check_member
+returns-in_err-check_member c =
+    rw (handed _ _ c.from_residual-in_err-check_member.ensures, another-ended (steady c.args.limits c.args.kind) _ c.if-left-eq0.false _ _ c.in_ok-record.ensures, ← c.in_err-check_member.ensures)
 
 pub returns : goal.returns
-returns c = λ start.
-    let a = c.args in
-    let names = names_in 64 a.ts.now in
-    let w = long a.s.now c.record_len-n.result c.record_len-n.ensures.0 (omega arith) in
-    rw (c.close.ensures, c.check_member.ensures)
-    (sym
-    (another-ended (member a.states a.vars a.accounts names a.kind) start a.at a.s.now (steady-member a.states a.vars a.accounts names a.kind)
-    a.left c.record_len-n.result c.if-left-eq0.false w))
+returns c = rw (c.closed.ensures, another-ended (steady c.args.limits c.args.kind) _ c.if-left-eq0.false _ _ c.in_ok-record.ensures, ← c.in_ok-check_member.ensures)

@@ -1,24 +1,51 @@
 -- `check_transition` meets its contract.
-use Prim.Native.Nat.{◌+◌}
+use mathlib.Core.Bool.{false}
+use mathlib.Core.Path.{ap₂}
 use native.Mathlib.Omega.{arith}
-use Rattle.records.proofs.Readers.{steady-within}
+use Rattle.records.specs.Checking.{found}
+use Rattle.records.proofs.Readers.{handed, reaches}
+use Rattle.records.proofs.ExpressionLaws.{steady-expression}
+use Rattle.records.proofs.StatementLaws.{steady-statement}
 use Rattle.files.proofs.Steadies.{steady-transition-head}
-use Rattle.files.proofs.MemberLaws.{guard-within, transition-onward}
-use mathlib.Core.Path.{sym}
+use Rattle.files.proofs.MemberLaws.{transition-onward}
 use Rattle.files.proofs.members.check_transition.Goals as goal
 
-pub then_expression-guard-requires : goal.then_expression-guard-requires
-then_expression-guard-requires c =
-    let a = c.args in
-    (omega arith, rw c.check_transition_head-head.ensures (steady-within (steady-transition-head a.states) a.at (a.at + 4) a.b.now))
+pub returns-in_err-head : goal.returns-in_err-head
+returns-in_err-head c = rw (handed _ _ c.from_residual.ensures, transition-onward _ _ _ _ _, ← c.in_err-head.ensures)
 
-pub then_statement-requires : goal.then_statement-requires
-then_statement-requires c =
-    let a = c.args in
-    (omega arith, rw (c.then_expression-guard.ensures a.at, c.check_transition_head-head.ensures) (guard-within a.at a.b.now a.states a.vars))
+pub after-requires : goal.after-requires
+after-requires c =
+    let b = c.args.b in
+    let x = reaches (steady-transition-head c.args.states 0 (omega arith)) b.start b.at b.bytes.now c.in_ok-head.ensures in
+    (x.low, x.high)
+
+pub returns-in_err-guard : goal.returns-in_err-guard
+returns-in_err-guard c =
+    let a = c.after.ensures in
+    rw (handed _ _ c.from_residual-in_err-guard.ensures, transition-onward _ _ _ _ _, ← c.in_ok-head.ensures, ← a.bytes, ← a.at, ← a.start, ← c.in_err-guard.ensures)
+
+pub after-requires-2 : goal.after-requires-2
+after-requires-2 c =
+    let a = c.after in
+    let x = reaches (steady-expression c.args.variables false 14 0 (omega arith)) a.result.start a.result.at a.result.bytes.now c.in_ok-guard.ensures in
+    (omega (arith, x.low, a.ensures.goes), omega (arith, x.high, a.ensures.ends))
+
+pub returns-in_err-action : goal.returns-in_err-action
+returns-in_err-action c =
+    let a = c.after.ensures in
+    let d = c.after-2.ensures in
+    rw (handed _ _ c.from_residual-in_err-action.ensures, transition-onward _ _ _ _ _, ← c.in_ok-head.ensures, ← a.bytes, ← a.at, ← a.start, ← c.in_ok-guard.ensures)
+    (rw (a.start, ← d.bytes, ← d.at, ← d.start, ← c.in_err-action.ensures))
+
+pub more-requires : goal.more-requires
+more-requires c =
+    let d = c.after-2 in
+    let x = reaches (steady-statement c.args.variables 14) d.result.start d.result.at d.result.bytes.now c.in_ok-action.ensures in
+    omega (arith, x.pays, x.high, d.ensures.ends, c.args.b.fits)
 
 pub returns : goal.returns
 returns c =
-    let a = c.args in
-    rw (c.then_statement.ensures a.at, c.then_expression-guard.ensures a.at, c.check_transition_head-head.ensures)
-    (sym (transition-onward a.at a.b.now a.states a.vars))
+    let a = c.after.ensures in
+    let d = c.after-2.ensures in
+    rw (transition-onward _ _ _ _ _, ← c.in_ok-head.ensures, ← a.bytes, ← a.at, ← a.start, ← c.in_ok-guard.ensures)
+    (rw (a.start, ← d.bytes, ← d.at, ← d.start, ← c.in_ok-action.ensures) (ap₂ found c.more.ensures.0 c.more.ensures.1))

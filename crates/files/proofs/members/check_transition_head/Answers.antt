@@ -1,9 +1,17 @@
 -- `check_transition_head` meets its contract.
-use Rattle.files.proofs.MemberLaws.{head-answer}
+use mathlib.Core.Path.{◌≡◌}
+use Rattle.records.proofs.Readers.{handed}
+use Rattle.files.proofs.MemberLaws.{head_answers, head-answer}
 use Rattle.files.proofs.members.check_transition_head.Goals as goal
+
+pub returns-in_err-and : goal.returns-in_err-and
+returns-in_err-and c =
+    let b = c.args.b in
+    let h : head_answers b.start b.at b.bytes.now c.args.states ≡ c.and-3.result = cc in
+    rw (handed _ _ c.from_residual.ensures, head-answer _ _ _ _, h, c.in_err-and.was)
 
 pub returns : goal.returns
 returns c =
-    let a = c.args in
-    rw (c.counted.ensures, c.field.ensures, c.byte-3.ensures.0, c.field-to.ensures, c.byte-2.ensures.0, c.field-from.ensures, c.byte.ensures.0, c.field-name.ensures)
-    (head-answer a.at a.b.now a.states)
+    let b = c.args.b in
+    let h : head_answers b.start b.at b.bytes.now c.args.states ≡ c.and-3.result = cc in
+    rw (head-answer _ _ _ _, h, c.in_ok-and.was)

@@ -7,6 +7,6 @@ pub returns-then-kind-eq1 : goal.returns-then-kind-eq1
 unfolding named
 returns-then-kind-eq1 c = rw (eq-eqb _ _ c.if-kind-eq1.true)
 
-pub returns : goal.returns
+pub returns-else-kind-eq1 : goal.returns-else-kind-eq1
 unfolding named
-returns c = rw (ne_eqb _ _ c.if-kind-eq1.false) c.is_name.ensures
+returns-else-kind-eq1 c = rw (ne_eqb _ _ c.if-kind-eq1.false) c.is_name.ensures

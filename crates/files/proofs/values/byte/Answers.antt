@@ -1,17 +1,15 @@
 -- `byte` meets its contract.
+use Rattle.std.specs.Prelude.{◌≡◌, slice_get, unwrap_or}
+use mathlib.Core.Path.{ap, ◌∙◌}
+use borrow.Author.Rules.{rules}
 use native.Mathlib.Omega.{arith}
-use Rattle.files.proofs.FieldLaws.{byte-there, value-short}
+use Rattle.std.proofs.lemmas.Option.{gets, unwrap_or-slice_get}
+use Rattle.files.proofs.FieldLaws.{byte-is}
 use Rattle.files.proofs.values.byte.Goals as goal
 
-pub overflow_cast-result : goal.overflow_cast-result
-overflow_cast-result c = omega (arith, c.type_inv.b c.args.i)
-
-pub returns-then-i-b : goal.returns-then-i-b
-returns-then-i-b c =
+pub returns : goal.returns
+returns c =
     let a = c.args in
-    (byte-there a.i a.b.now c.if-i-b.true, omega (arith, c.type_inv.b a.i))
-
-pub returns-else-i-b : goal.returns-else-i-b
-returns-else-i-b c =
-    let a = c.args in
-    (value-short 1 a.i a.b.now (omega arith) (omega (arith, c.if-i-b.false)), omega arith)
+    let found : c.copied.result ≡ slice_get a.b.now a.i = search (rules, gets) in
+    let e = c.from.ensures ∙ c.unwrap_or.ensures ∙ ap (λ o. unwrap_or o 0) found ∙ unwrap_or-slice_get a.b.now a.i 0 in
+    (e ∙ byte-is a.i a.b.now, omega (arith, e, c.type_inv.b a.i))

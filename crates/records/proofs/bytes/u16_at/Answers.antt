@@ -1,5 +1,5 @@
 -- `u16_at` meets its contract.
-use borrow.Author.Rules.{rules}
+use Prim.Native.Nat.{◌+◌}
 use native.Mathlib.Omega.{arith}
 use Rattle.records.proofs.Parts.{number-two}
 use Rattle.records.proofs.bytes.u16_at.Goals as goal
@@ -7,4 +7,4 @@ use Rattle.records.proofs.bytes.u16_at.Goals as goal
 pub returns : goal.returns
 returns c =
     let a = c.args in
-    (omega (arith, number-two a.s.now a.i (search rules)), omega arith)
+    (omega (arith, number-two a.s.now a.i c.requires, c.from.ensures, c.from-2.ensures), omega (arith, c.type_inv.s a.i, c.type_inv.s (a.i + 1), c.from.ensures, c.from-2.ensures))

@@ -1,161 +1,94 @@
-use mathlib.Core.Path.{◌≡◌}
-use Prim.Native.Nat.{ℕ, ◌+◌, ◌≤◌}
-use Rattle.records.specs.declared.Checked.{Checked}
-use Rattle.records.specs.declared.Checked.TheVariants.{Ok}
-use Prim.Native.Nat.{ℕ, ◌+◌}
 use mathlib.Core.Path.{sym, ◌∙◌}
-use mathlib.Core.Bool.{◌&&◌}
 use native.Mathlib.Omega.{arith}
-use lib.Dec.{ltb, leb}
-use Rattle.records.proofs.Readers.{steady-within, steady-ranged, pair-within}
-use Rattle.records.proofs.ExpressionLaws.{steady-expression}
+use Prim.Native.Nat.{◌-◌}
+use Rattle.records.proofs.Readers.{handed, reaches, no-steps, added_none, steady-ranged}
+use Rattle.records.proofs.ExpressionLaws.{steady-body, steady-expression, expression-short, expression-deep, expression-ended}
 use Rattle.records.proofs.ExpressionKinds.{constant-is, variable-is, local-refused, local-is, argument-refused, argument_is}
 use Rattle.records.proofs.ExpressionKinds.{context-in-rule, context-is, binary-is, not_is, other-is}
-use borrow.Author.Rules.{rules}
-use Prim.Native.Nat.{ℕ}
-use mathlib.Core.Path.{sym, ap}
-use Rattle.rules.specs.Reading.{kind_of}
-use Rattle.records.specs.Checking.{outcome, no_steps}
-use Rattle.records.proofs.Parts.{part_length, long, short}
-use Rattle.records.proofs.ExpressionLaws.{expression-short, expression-deep, expression-ended}
-use Prim.Native.Nat.{ℕ, ◌+◌, ◌-◌, ◌≤◌}
-use mathlib.Core.Path.{subst}
-use lib.ListN.{length}
-use Rattle.rules.specs.Reading.{expression}
-use Rattle.records.specs.Checking.{from, Within}
-use Rattle.records.proofs.Parts.{from-length}
-use Rattle.records.proofs.Readers.{counts-more}
+use Rattle.records.proofs.expressions.+expression.Goals.{check_body-in_default-via-in-66+else-not-scope, check_body-in_default-via-in-67+else-not-scope-2, check_body-in_default-via-in_default-1}
 use Rattle.records.proofs.expressions.+expression.Goals as goal
 
 -- `check_body`
 
-pub check_body-then_expression-left-requires : goal.check_body-then_expression-left-requires
-check_body-then_expression-left-requires t c =
-    let a = c.args in
-    let w = steady-within (steady-ranged (λ i. leb 0 i && ltb i 11)) a.at (a.at + 4) a.b.now in
-    (omega arith, (omega arith, rw c.check_index-in-80.ensures w))
-
-pub check_body-then_expression-requires : goal.check_body-then_expression-requires
-check_body-then_expression-requires t c =
-    let a = c.args in
-    let h = steady-expression a.vars a.in_rule a.levels 0 (omega arith) in
-    let w = pair-within (steady-ranged (λ i. leb 0 i && ltb i 11)) h a.at (a.at + 4) a.b.now in
-    (omega arith, (omega arith, rw (c.then_expression-left.ensures a.at, c.check_index-in-80.ensures) w))
-
-pub check_body-check_expression-requires : goal.check_body-check_expression-requires
-check_body-check_expression-requires t c = (omega arith, omega arith)
-
 pub check_body-returns-in-64 : goal.check_body-returns-in-64
-check_body-returns-in-64 t c =
-    let a = c.args in
-    c.check_constant.ensures ∙ sym (constant-is a.vars a.in_rule a.levels a.at a.b.now a.kind c.in-64.is)
+check_body-returns-in-64 t c = c.check_constant.ensures ∙ sym (constant-is _ _ _ _ _ _ _ c.in-64.is)
 
 pub check_body-returns-in-65 : goal.check_body-returns-in-65
-check_body-returns-in-65 t c =
-    let a = c.args in
-    c.check_index.ensures ∙ sym (variable-is a.vars a.in_rule a.levels a.at a.b.now a.kind c.in-65.is)
+check_body-returns-in-65 t c = c.check_index.ensures ∙ sym (variable-is _ _ _ _ _ _ _ c.in-65.is)
 
-pub check_body-returns-then-in_rule : goal.check_body-returns-then-in_rule
-check_body-returns-then-in_rule t c =
-    let a = c.args in
-    sym (local-refused a.vars a.in_rule a.levels a.at a.b.now a.kind c.in-66.is c.if-in_rule.true)
+pub check_body-returns-in-66 : goal.check_body-returns-in-66
+check_body-returns-in-66 t c = c.check_index-in-66.ensures ∙ sym (local-is _ _ _ _ _ _ _ c.in-66.is c.if-not-scope.true)
 
-pub check_body-returns-else-in_rule : goal.check_body-returns-else-in_rule
-check_body-returns-else-in_rule t c =
-    let a = c.args in
-    c.check_index-else-in_rule.ensures ∙ sym (local-is a.vars a.in_rule a.levels a.at a.b.now a.kind c.in-66.is c.if-in_rule.false)
+pub check_body-returns-in-67 : goal.check_body-returns-in-67
+check_body-returns-in-67 t c = c.check_index-in-67.ensures ∙ sym (argument_is _ _ _ _ _ _ _ c.in-67.is c.if-not-scope-2.true)
 
-pub check_body-returns-then-in_rule-2 : goal.check_body-returns-then-in_rule-2
-check_body-returns-then-in_rule-2 t c =
-    let a = c.args in
-    sym (argument-refused a.vars a.in_rule a.levels a.at a.b.now a.kind c.in-67.is c.if-in_rule-2.true)
+pub check_body-returns-in-68 : goal.check_body-returns-in-68
+check_body-returns-in-68 t c = c.check_index-in-68.ensures ∙ sym (context-in-rule _ _ _ _ _ _ _ c.in-68.is c.if-scope.true)
 
-pub check_body-returns-else-in_rule-2 : goal.check_body-returns-else-in_rule-2
-check_body-returns-else-in_rule-2 t c =
-    let a = c.args in
-    c.check_index-else-in_rule-2.ensures ∙ sym (argument_is a.vars a.in_rule a.levels a.at a.b.now a.kind c.in-67.is c.if-in_rule-2.false)
+pub check_body-returns-in-68-2 : goal.check_body-returns-in-68-2
+check_body-returns-in-68-2 t c = c.check_index-in-68-2.ensures ∙ sym (context-is _ _ _ _ _ _ _ c.in-68.is c.if-scope.false)
 
-pub check_body-returns-then-in_rule-3 : goal.check_body-returns-then-in_rule-3
-check_body-returns-then-in_rule-3 t c =
-    let a = c.args in
-    c.check_index-then-in_rule-3.ensures ∙ sym (context-in-rule a.vars a.in_rule a.levels a.at a.b.now a.kind c.in-68.is c.if-in_rule-3.true)
+pub check_body-returns-in_err-operator-in-80 : goal.check_body-returns-in_err-operator-in-80
+check_body-returns-in_err-operator-in-80 t c = rw (handed _ _ c.from_residual.ensures, binary-is _ _ _ _ _ _ _ c.in-80.is, ← c.in_err-operator-in-80.ensures)
 
-pub check_body-returns-else-in_rule-3 : goal.check_body-returns-else-in_rule-3
-check_body-returns-else-in_rule-3 t c =
-    let a = c.args in
-    c.check_index-else-in_rule-3.ensures ∙ sym (context-is a.vars a.in_rule a.levels a.at a.b.now a.kind c.in-68.is c.if-in_rule-3.false)
+pub check_body-after-requires : goal.check_body-after-requires
+check_body-after-requires t c =
+    let b = c.args.b in
+    let x = reaches (steady-ranged {k = 0} _) b.start b.at b.bytes.now c.in_ok-operator-in-80.ensures in
+    (x.low, x.high)
 
-pub check_body-returns-in-80 : goal.check_body-returns-in-80
-check_body-returns-in-80 t c =
-    let a = c.args in
-    rw (c.then_expression.ensures a.at, c.then_expression-left.ensures a.at, c.check_index-in-80.ensures)
-    (sym (binary-is a.vars a.in_rule a.levels a.at a.b.now a.kind c.in-80.is))
+pub check_body-returns-in_err-left-in-80 : goal.check_body-returns-in_err-left-in-80
+check_body-returns-in_err-left-in-80 t c =
+    let a = c.after.ensures in
+    rw (handed _ _ c.from_residual-in_err-left-in-80.ensures, binary-is _ _ _ _ _ _ _ c.in-80.is, ← c.in_ok-operator-in-80.ensures, ← a.bytes, ← a.at, ← a.start, ← c.in_err-left-in-80.ensures)
+
+pub check_body-after-requires-in-80 : goal.check_body-after-requires-in-80
+check_body-after-requires-in-80 t c =
+    let a = c.after in
+    let s = c.args.scope in
+    let x = reaches (steady-expression s.variables s.in_rule c.args.levels 0 (omega arith)) a.result.start a.result.at a.result.bytes.now c.in_ok-left-in-80.ensures in
+    (omega (arith, x.low, a.ensures.goes), omega (arith, x.high, a.ensures.ends))
+
+pub check_body-returns-in_ok-left-in-80 : goal.check_body-returns-in_ok-left-in-80
+check_body-returns-in_ok-left-in-80 t c =
+    let a = c.after.ensures in
+    let d = c.after-in-80.ensures in
+    rw (binary-is _ _ _ _ _ _ _ c.in-80.is, ← c.in_ok-operator-in-80.ensures, ← a.bytes, ← a.at, ← a.start, ← c.in_ok-left-in-80.ensures)
+    (rw (a.start, ← d.bytes, ← d.at, ← d.start, ← c.check_expression-in-80.ensures)
+    (added_none _ _ (omega (arith, no-steps _ c.in_ok-operator-in-80.ensures, no-steps _ c.in_ok-left-in-80.ensures))))
 
 pub check_body-returns-in-81 : goal.check_body-returns-in-81
-check_body-returns-in-81 t c =
-    let a = c.args in
-    rw (c.check_expression.ensures a.at) (sym (not_is a.vars a.in_rule a.levels a.at a.b.now a.kind c.in-81.is))
+check_body-returns-in-81 t c = c.check_expression-in-81.ensures ∙ sym (not_is _ _ _ _ _ _ _ c.in-81.is)
 
 pub check_body-returns-in_default : goal.check_body-returns-in_default
 check_body-returns-in_default t c =
     let a = c.args in
-    let r = c.in_default.in_default-own.rest in
-    sym (other-is a.vars a.in_rule a.levels a.at a.b.now a.kind r.0.0.0.0.0.0.1 r.0.0.0.0.0.1 r.0.0.0.0.1 r.0.0.0.1 r.0.0.1 r.0.1 r.1)
+    let s = a.scope in
+    elim c.in_default.branch [
+      | check_body-in_default-via-in-66+else-not-scope w ↦ rw (c.refused.ensures, local-refused _ _ _ _ _ _ _ w.in-66.is w.if-not-scope.false)
+      | check_body-in_default-via-in-67+else-not-scope-2 w ↦ rw (c.refused.ensures, argument-refused _ _ _ _ _ _ _ w.in-67.is w.if-not-scope-2.false)
+      | check_body-in_default-via-in_default-1 w ↦
+          rw (
+            c.refused.ensures,
+            other-is s.variables s.in_rule a.levels a.b.start a.b.at a.b.bytes.now a.kind
+                (λ k. omega arith) (λ k. omega arith) (λ k. omega arith) (λ k. omega arith) (λ k. omega arith) (λ k. omega arith) (λ k. omega arith),
+          )
+    ]
 
 -- `check_expression`
 
-pub check_expression-returns-then-n-lt4 : goal.check_expression-returns-then-n-lt4
-check_expression-returns-then-n-lt4 t c = λ start.
-    let a = c.args in
-    sym (ap (outcome no_steps) (expression-short a.vars a.in_rule start a.at a.s.now a.levels (short a.s.now (omega arith))))
+pub check_expression-returns-in_err-record : goal.check_expression-returns-in_err-record
+check_expression-returns-in_err-record t c =
+    let r = c.in_err-record.ensures in
+    rw (handed _ _ c.from_residual.ensures, r.1, expression-short _ _ _ _ _ _ r.0)
 
 pub check_expression-returns-then-levels-eq0 : goal.check_expression-returns-then-levels-eq0
-check_expression-returns-then-levels-eq0 t c = λ start.
-    let a = c.args in
-    let w = long a.s.now _ c.record_len-n.ensures.0 (omega arith) in
-    sym (ap (outcome no_steps) (expression-deep a.vars a.in_rule start a.at a.s.now a.levels c.if-levels-eq0.true w.is))
+check_expression-returns-then-levels-eq0 t c = rw (c.refused.ensures, expression-deep _ _ _ _ _ _ c.if-levels-eq0.true c.in_ok-record.ensures.is)
 
-pub check_expression-check_body-requires : goal.check_expression-check_body-requires
-check_expression-check_body-requires t c =
-    let r = c in
-    (omega arith, omega (arith, part_length 4 r.record_len-n.result r.args.s.now r.record_len-n.ensures.1))
+pub check_expression-returns-in_err-check_body : goal.check_expression-returns-in_err-check_body
+check_expression-returns-in_err-check_body t c =
+    rw (handed _ _ c.from_residual-in_err-check_body.ensures, expression-ended _ _ _ c.if-levels-eq0.false _ _ c.in_ok-record.ensures, ← c.in_err-check_body.ensures)
 
 pub check_expression-returns : goal.check_expression-returns
-unfolding kind_of
-check_expression-returns t c = λ start.
-    let a = c.args in
-    let r = c.record_len-n in
-    let w = long a.s.now r.result r.ensures.0 (omega arith) in
-    let u = c.u16_at-kind in
-    rw (c.close.ensures, c.check_body.ensures)
-    (sym (expression-ended a.vars a.in_rule start a.at a.s.now a.levels r.result u.result c.if-levels-eq0.false w u.ensures.0))
-
--- `then_expression`
-
--- where c ended
-fits : (at n m steps : ℕ) (c : Checked) → c ≡ Ok m steps → Within at n c → (at + steps ≤ m) × (m ≤ at + n)
-fits at n m steps c e w = subst (Within at n) e w
-
-pub then_expression-overflow_sub-i : goal.then_expression-overflow_sub-i
-then_expression-overflow_sub-i t c = omega (arith, (fits _ _ _ _ _ c.in-Ok.is c.requires.1).0)
-
-pub then_expression-slice_bounds-check_expression-count : goal.then_expression-slice_bounds-check_expression-count
-then_expression-slice_bounds-check_expression-count t c = omega (arith, (fits _ _ _ _ _ c.in-Ok.is c.requires.1).1)
-
-pub then_expression-slice_bounds-check_expression-start : goal.then_expression-slice_bounds-check_expression-start
-then_expression-slice_bounds-check_expression-start t c = omega (arith, (fits _ _ _ _ _ c.in-Ok.is c.requires.1).1)
-
-pub then_expression-check_expression-requires : goal.then_expression-check_expression-requires
-then_expression-check_expression-requires t c =
-    let s = c.args.s.now in
-    (omega arith, omega (arith, (fits _ _ _ _ _ c.in-Ok.is c.requires.1).0, (fits _ _ _ _ _ c.in-Ok.is c.requires.1).1, from-length (c.in-Ok.m - c.args.at) s))
-
-pub then_expression-returns-in-Refused : goal.then_expression-returns-in-Refused
-then_expression-returns-in-Refused t c = λ start. rw c.in-Refused.is
-
-pub then_expression-returns-in-Ok : goal.then_expression-returns-in-Ok
-then_expression-returns-in-Ok t c = λ start.
-    let a = c.args in
-    let k = c.in-Ok in
-    rw (k.is, c.counted.ensures, c.check_expression.ensures start)
-    (counts-more k.steps (expression a.vars a.in_rule a.levels start k.m (from (k.m - a.at) a.s.now)))
+check_expression-returns t c =
+    rw (c.closed.ensures, expression-ended _ _ _ c.if-levels-eq0.false _ _ c.in_ok-record.ensures, ← c.in_ok-check_body.ensures)

@@ -1,21 +1,20 @@
 -- `check_set` meets its contract.
-use Prim.Native.Nat.{◌+◌}
-use mathlib.Core.Path.{sym}
-use native.Mathlib.Omega.{arith}
 use Rattle.records.specs.Counting.{target}
-use Rattle.records.proofs.Readers.{steady-within, steady-ranged}
+use Rattle.records.proofs.Readers.{handed, reaches, no-steps, added_none, steady-ranged}
 use Rattle.records.proofs.StatementKinds.{set-onward}
-use borrow.Author.Rules.{rules}
 use Rattle.records.proofs.sets.check_set.Goals as goal
 
-pub then_expression-requires : goal.then_expression-requires
-then_expression-requires c =
-    let a = c.args in
-    let w = steady-within (steady-ranged (target a.vars)) a.at (a.at + 4) a.b.now in
-    (omega arith, rw c.check_target.ensures w)
+pub returns-in_err-target : goal.returns-in_err-target
+returns-in_err-target c = rw (handed _ _ c.from_residual.ensures, set-onward _ _ _ _ _, ← c.in_err-target.ensures)
+
+pub after-requires : goal.after-requires
+after-requires c =
+    let b = c.args.b in
+    let x = reaches (steady-ranged {k = 0} (target c.args.variables)) b.start b.at b.bytes.now c.in_ok-target.ensures in
+    (x.low, x.high)
 
 pub returns : goal.returns
 returns c =
-    let a = c.args in
-    rw (c.then_expression.ensures a.at, c.check_target.ensures)
-    (sym (set-onward a.vars a.levels a.at (a.at + 4) a.b.now))
+    let a = c.after.ensures in
+    rw (set-onward _ _ _ _ _, ← c.in_ok-target.ensures, ← a.bytes, ← a.at, ← a.start, ← c.check_value.ensures)
+    (added_none _ _ (no-steps _ c.in_ok-target.ensures))

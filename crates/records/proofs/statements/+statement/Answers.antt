@@ -1,245 +1,184 @@
-use mathlib.Core.Path.{◌≡◌}
-use Prim.Native.Nat.{ℕ, ◌+◌, ◌≤◌}
-use Rattle.records.specs.declared.Checked.{Checked}
-use Rattle.records.specs.declared.Checked.TheVariants.{Ok}
-use Prim.Native.Nat.{ℕ, ◌+◌, ◌-◌, ◌≤◌}
-use mathlib.Core.Path.{sym, ◌∙◌}
+use Prim.Native.Nat.{◌-◌}
+use mathlib.Core.Bool.{false}
+use mathlib.Core.Path.{sym, ap₂, ◌∙◌}
 use native.Mathlib.Omega.{arith}
-use lib.ListN.{length}
-use Rattle.records.specs.Checking.{from}
-use Rattle.records.proofs.Parts.{from-length}
-use Rattle.records.proofs.BlockLaws.{Read, statement-read, Rest, rest_all, rest-refuses, rest-ends, rest_goes}
 use borrow.Author.Rules.{rules}
-use Prim.Native.Nat.{ℕ, ◌+◌}
-use mathlib.Core.Logic.{inl, inr, ⊎_elim}
-use mathlib.Core.Path.{sym}
-use Rattle.records.proofs.StatementKinds.{part-within, for-head-within}
-use Rattle.records.proofs.StatementKinds.{set_is, transfer-is, require-is, return-is, block-is, if-is, else_is, while-is, for-is, other-is}
-use Prim.Native.Nat.{ℕ}
-use Rattle.records.proofs.StatementKinds.{condition-within}
-use mathlib.Core.Path.{sym, ap}
-use Rattle.rules.specs.Reading.{kind_of}
-use Rattle.records.specs.Checking.{outcome}
-use Rattle.records.specs.Counting.{step_count}
-use Rattle.records.proofs.Parts.{part_length, long, short}
-use Rattle.records.proofs.StatementLaws.{statement-short, statement-deep, statement-ended}
-use mathlib.Core.Path.{sym, subst, ◌∙◌}
-use Rattle.records.specs.Checking.{from, Within}
-use Rattle.records.proofs.BlockLaws.{statement-read}
+use borrow.Author.Tests.{eqb-true, eqb-false}
+use Rattle.records.specs.Checking.{found}
+use Rattle.records.proofs.Readers.{handed, reaches}
+use Rattle.records.proofs.ExpressionLaws.{steady-expression}
+use Rattle.records.proofs.StatementLaws.{steady-loop-set, steady-body, steady-statement, statement-short, statement-deep, statement-ended}
+use Rattle.records.proofs.StatementKinds.{if-reaches, head-reaches, set_is, transfer-is, value-is, block-is, if-is, else_is, for-is, other-is}
+use Rattle.records.proofs.BlockLaws.{statement-read, rest-refuses, rest-ends, rest_goes}
 use Rattle.records.proofs.statements.+statement.Goals as goal
 
 -- `check_block`
 
-pub check_block-loop-k-init : goal.check_block-loop-k-init
-check_block-loop-k-init t c =
-    let a = c.args in
-    (omega arith, omega arith, rest_all a.vars a.levels a.at a.s.now)
+pub check_block-returns-in_err-check_statement : goal.check_block-returns-in_err-check_statement
+check_block-returns-in_err-check_statement t c =
+    rw (handed _ _ c.from_residual.ensures) (rest-refuses _ _ _ _ _ _ _ c.loop-read.invariant.2 (sym c.in_err-check_statement.ensures))
 
-pub check_block-check_statement-requires : goal.check_block-check_statement-requires
-check_block-check_statement-requires t c =
-    let l = c in
-    let a = l.args in
-    (omega arith, omega (arith, from-length l.loop-k.i a.s.now, l.loop-k.invariant.0))
+pub check_block-more-read-requires : goal.check_block-more-read-requires
+check_block-more-read-requires t c =
+    let r = c.loop-read.rest in
+    let x = reaches (steady-statement c.args.variables c.args.levels) r.start r.at r.bytes.now c.in_ok-check_statement.ensures in
+    omega (arith, x.pays, x.high, c.args.b.fits, c.loop-read.invariant.0, c.loop-read.invariant.1)
 
-pub check_block-returns-in-Refused : goal.check_block-returns-in-Refused
-check_block-returns-in-Refused t c =
-    let l = c in
-    let a = l.args in
-    rest-refuses a.vars a.levels a.at a.s.now l.loop-k.i l.loop-k.steps l.loop-k.invariant.2
-    λ start. sym c.in-Refused.is ∙ c.check_statement.ensures start
+pub check_block-after-rest-requires : goal.check_block-after-rest-requires
+check_block-after-rest-requires t c =
+    let r = c.loop-read.rest in
+    let x = reaches (steady-statement c.args.variables c.args.levels) r.start r.at r.bytes.now c.in_ok-check_statement.ensures in
+    (omega (arith, x.low, c.more-read.ensures.0), omega (arith, x.high, c.more-read.ensures.0))
 
-pub check_block-overflow_sub-i : goal.check_block-overflow_sub-i
-check_block-overflow_sub-i t c =
-    let l = c in
-    let a = l.args in
-    let r = statement-read a.vars a.levels 0 (a.at + l.loop-k.i) (from l.loop-k.i a.s.now) (sym c.in-Ok.is ∙ c.check_statement.ensures 0) in
-    omega (arith, r.low)
+pub check_block-returns-then-is_empty : goal.check_block-returns-then-is_empty
+check_block-returns-then-is_empty t c =
+    let a = c.after-rest.ensures in
+    let m = c.more-read.ensures in
+    ap₂ found m.0 m.1
+    ∙ rest-ends _ _ _ _ _ _ _ c.loop-read.invariant.2 (sym c.in_ok-check_statement.ensures)
+    (omega (arith, a.ends, a.at, m.0, eqb-true _ 0 (sym c.if-is_empty.ensures)))
 
-pub check_block-overflow_add-steps : goal.check_block-overflow_add-steps
-check_block-overflow_add-steps t c =
-    let l = c in
-    let a = l.args in
-    let r = statement-read a.vars a.levels 0 (a.at + l.loop-k.i) (from l.loop-k.i a.s.now) (sym c.in-Ok.is ∙ c.check_statement.ensures 0) in
-    omega (arith, r.pays, r.high, l.loop-k.invariant.0, l.loop-k.invariant.1, from-length l.loop-k.i a.s.now)
+pub check_block-loop-read-smaller : goal.check_block-loop-read-smaller
+check_block-loop-read-smaller t c =
+    let r = c.loop-read.rest in
+    let x = statement-read _ _ r.start r.at r.bytes.now (sym c.in_ok-check_statement.ensures) in
+    omega (arith, x.low, c.more-read.ensures.0, c.after-rest.ensures.at, c.after-rest.ensures.ends)
 
-pub check_block-returns-then-s-i : goal.check_block-returns-then-s-i
-check_block-returns-then-s-i t c =
-    let l = c in
-    let a = l.args in
-    let r = statement-read a.vars a.levels 0 (a.at + l.loop-k.i) (from l.loop-k.i a.s.now) (sym c.in-Ok.is ∙ c.check_statement.ensures 0) in
-    rest-ends a.vars a.levels a.at a.s.now l.loop-k.i l.loop-k.steps l.loop-k.invariant.2
-    (λ start. sym c.in-Ok.is ∙ c.check_statement.ensures start)
-    l.loop-k.invariant.0 c.if-s-i.true
-
-pub check_block-loop-k-smaller : goal.check_block-loop-k-smaller
-check_block-loop-k-smaller t c =
-    let l = c in
-    let a = l.args in
-    let r = statement-read a.vars a.levels 0 (a.at + l.loop-k.i) (from l.loop-k.i a.s.now) (sym c.in-Ok.is ∙ c.check_statement.ensures 0) in
-    omega (arith, r.low, c.if-s-i.false)
-
-pub check_block-loop-k-preserved : goal.check_block-loop-k-preserved
-check_block-loop-k-preserved t c =
-    let l = c in
-    let a = l.args in
-    let r = statement-read a.vars a.levels 0 (a.at + l.loop-k.i) (from l.loop-k.i a.s.now) (sym c.in-Ok.is ∙ c.check_statement.ensures 0) in (
-      omega (arith, c.if-s-i.false),
-      omega (arith, r.pays, l.loop-k.invariant.1),
-      rest_goes a.vars a.levels a.at a.s.now l.loop-k.i l.loop-k.steps l.loop-k.invariant.2
-          (λ start. sym c.in-Ok.is ∙ c.check_statement.ensures start)
-          l.loop-k.invariant.0 c.if-s-i.false,
+pub check_block-loop-read-preserved : goal.check_block-loop-read-preserved
+check_block-loop-read-preserved t c =
+    let r = c.loop-read.rest in
+    let a = c.after-rest.ensures in
+    let m = c.more-read.ensures in
+    let x = statement-read _ _ r.start r.at r.bytes.now (sym c.in_ok-check_statement.ensures) in (
+      omega (arith, x.pays, m.0, m.1, a.at, c.loop-read.invariant.0),
+      omega (arith, a.ends, c.loop-read.invariant.1),
+      rw (a.start, a.bytes, a.at, m.0, m.1) (rest_goes _ _ _ _ _ _ _ c.loop-read.invariant.2 (sym c.in_ok-check_statement.ensures)
+          (omega (arith, a.ends, a.at, m.0, eqb-false _ 0 (sym c.if-is_empty.ensures)))),
     )
 
 -- `check_body`
 
-pub check_body-check_block-requires : goal.check_body-check_block-requires
-check_body-check_block-requires t c = (omega arith, omega arith)
+pub check_body-returns-in_err-check_set-in-16 : goal.check_body-returns-in_err-check_set-in-16
+check_body-returns-in_err-check_set-in-16 t c = rw (handed _ _ c.from_residual.ensures, set_is _ _ _ _ _ _ c.in-16.is, ← c.in_err-check_set-in-16.ensures)
 
-pub check_body-check_if-requires : goal.check_body-check_if-requires
-check_body-check_if-requires t c = (omega arith, omega arith)
+pub check_body-returns-in_ok-check_set-in-16 : goal.check_body-returns-in_ok-check_set-in-16
+check_body-returns-in_ok-check_set-in-16 t c = rw (set_is _ _ _ _ _ _ c.in-16.is, ← c.in_ok-check_set-in-16.ensures) (ap₂ found c.more.ensures.0 c.more.ensures.1)
 
-pub check_body-check_if-requires-in-34 : goal.check_body-check_if-requires-in-34
-check_body-check_if-requires-in-34 t c = (omega arith, omega arith)
+pub check_body-returns-in_err-check_transfer-in-17 : goal.check_body-returns-in_err-check_transfer-in-17
+check_body-returns-in_err-check_transfer-in-17 t c =
+    rw (handed _ _ c.from_residual-in_err-check_transfer-in-17.ensures, transfer-is _ _ _ _ _ _ c.in-17.is, ← c.in_err-check_transfer-in-17.ensures)
 
-pub check_body-then_statement-requires : goal.check_body-then_statement-requires
-check_body-then_statement-requires t c =
+pub check_body-returns-in_ok-check_transfer-in-17 : goal.check_body-returns-in_ok-check_transfer-in-17
+check_body-returns-in_ok-check_transfer-in-17 t c =
+    let m = c.more-in-17 in
+    rw (transfer-is _ _ _ _ _ _ c.in-17.is, ← c.in_ok-check_transfer-in-17.ensures) (ap₂ found m.ensures.0 m.ensures.1)
+
+pub check_body-returns-in_err-check_value-in-18 : goal.check_body-returns-in_err-check_value-in-18
+check_body-returns-in_err-check_value-in-18 t c =
     let a = c.args in
-    (omega arith, (omega arith, rw (c.check_if-in-34.ensures a.at) (part-within a.vars a.levels a.at (a.at + 4) a.b.now)))
+    let v = value-is a.variables a.levels a.b.start a.b.at a.b.bytes.now a.kind (omega arith) (omega arith) in
+    rw (handed _ _ c.from_residual-in_err-check_value-in-18.ensures, v, ← c.in_err-check_value-in-18.ensures)
 
-pub check_body-then_statement-requires-in-36 : goal.check_body-then_statement-requires-in-36
-check_body-then_statement-requires-in-36 t c =
+pub check_body-returns-in_ok-check_value-in-18 : goal.check_body-returns-in_ok-check_value-in-18
+check_body-returns-in_ok-check_value-in-18 t c =
     let a = c.args in
-    (omega arith, (omega arith, rw (c.check_for_head.ensures a.at) (for-head-within a.vars a.levels a.at (a.at + 4) a.b.now)))
-
-pub check_body-returns-in-16 : goal.check_body-returns-in-16
-check_body-returns-in-16 t c =
-    let a = c.args in
-    rw (c.counted.ensures, c.check_set.ensures) (sym (set_is a.vars a.levels a.at (a.at + 4) a.b.now a.kind c.in-16.is))
-
-pub check_body-returns-in-17 : goal.check_body-returns-in-17
-check_body-returns-in-17 t c =
-    let a = c.args in
-    rw (c.counted-in-17.ensures, c.check_transfer.ensures a.at) (sym (transfer-is a.vars a.levels a.at (a.at + 4) a.b.now a.kind c.in-17.is))
-
-pub check_body-returns-in-18 : goal.check_body-returns-in-18
-check_body-returns-in-18 t c =
-    let a = c.args in
-    rw (c.counted-in-18.ensures, c.check_expression.ensures a.at) (sym (require-is a.vars a.levels a.at (a.at + 4) a.b.now a.kind c.in-18.is))
-
-pub check_body-returns-in-19 : goal.check_body-returns-in-19
-check_body-returns-in-19 t c =
-    let a = c.args in
-    rw (c.counted-in-19.ensures, c.check_expression-in-19.ensures a.at) (sym (return-is a.vars a.levels a.at (a.at + 4) a.b.now a.kind c.in-19.is))
+    let m = c.more-in-18 in
+    rw (value-is a.variables a.levels a.b.start a.b.at a.b.bytes.now a.kind (omega arith) (omega arith), ← c.in_ok-check_value-in-18.ensures) (ap₂ found m.ensures.0 m.ensures.1)
 
 pub check_body-returns-in-32 : goal.check_body-returns-in-32
-check_body-returns-in-32 t c =
-    let a = c.args in
-    rw (c.check_block.ensures a.at) (sym (block-is a.vars a.levels a.at (a.at + 4) a.b.now a.kind c.in-32.is))
+check_body-returns-in-32 t c = c.check_block.ensures ∙ sym (block-is _ _ _ _ _ _ c.in-32.is)
 
 pub check_body-returns-in-33 : goal.check_body-returns-in-33
-check_body-returns-in-33 t c =
-    let a = c.args in
-    rw (c.check_if.ensures a.at)
-    (⊎_elim (λ k. sym (if-is a.vars a.levels a.at (a.at + 4) a.b.now a.kind k))
-    (λ k. sym (while-is a.vars a.levels a.at (a.at + 4) a.b.now a.kind k)) c.in-33.is)
+check_body-returns-in-33 t c = c.check_if.ensures ∙ sym (if-is _ _ _ _ _ _ c.in-33.is)
 
-pub check_body-returns-in-34 : goal.check_body-returns-in-34
-check_body-returns-in-34 t c =
-    let a = c.args in
-    rw (c.then_statement.ensures a.at, c.check_if-in-34.ensures a.at)
-    (sym (else_is a.vars a.levels a.at (a.at + 4) a.b.now a.kind c.in-34.is))
+pub check_body-returns-in_err-first-in-34 : goal.check_body-returns-in_err-first-in-34
+check_body-returns-in_err-first-in-34 t c = rw (handed _ _ c.from_residual-in_err-first-in-34.ensures, else_is _ _ _ _ _ _ c.in-34.is, ← c.in_err-first-in-34.ensures)
 
-pub check_body-returns-in-36 : goal.check_body-returns-in-36
-check_body-returns-in-36 t c =
-    let a = c.args in
-    rw (c.then_statement-in-36.ensures a.at, c.check_for_head.ensures a.at)
-    (sym (for-is a.vars a.levels a.at (a.at + 4) a.b.now a.kind c.in-36.is))
+pub check_body-after-requires : goal.check_body-after-requires
+check_body-after-requires t c =
+    let x = if-reaches _ _ _ _ _ c.in_ok-first-in-34.ensures in
+    (x.low, x.high)
+
+pub check_body-returns-in_err-second-in-34 : goal.check_body-returns-in_err-second-in-34
+check_body-returns-in_err-second-in-34 t c =
+    let a = c.after.ensures in
+    rw (handed _ _ c.from_residual-in_err-second-in-34.ensures, else_is _ _ _ _ _ _ c.in-34.is, ← c.in_ok-first-in-34.ensures, ← a.bytes, ← a.at, ← a.start, ← c.in_err-second-in-34.ensures)
+
+pub check_body-more-requires-in-34 : goal.check_body-more-requires-in-34
+check_body-more-requires-in-34 t c =
+    let x = if-reaches _ _ _ _ _ c.in_ok-first-in-34.ensures in
+    let a = c.after in
+    let y = reaches (steady-statement c.args.variables c.args.levels) a.result.start a.result.at a.result.bytes.now c.in_ok-second-in-34.ensures in
+    omega (arith, x.pays, y.pays, y.high, a.ensures.at, a.ensures.ends, c.args.b.fits)
+
+pub check_body-returns-in_ok-second-in-34 : goal.check_body-returns-in_ok-second-in-34
+check_body-returns-in_ok-second-in-34 t c =
+    let a = c.after.ensures in
+    let m = c.more-in-34 in
+    rw (else_is _ _ _ _ _ _ c.in-34.is, ← c.in_ok-first-in-34.ensures, ← a.bytes, ← a.at, ← a.start, ← c.in_ok-second-in-34.ensures) (ap₂ found m.ensures.0 m.ensures.1)
+
+pub check_body-returns-in_err-head-in-36 : goal.check_body-returns-in_err-head-in-36
+check_body-returns-in_err-head-in-36 t c = rw (handed _ _ c.from_residual-in_err-head-in-36.ensures, for-is _ _ _ _ _ _ c.in-36.is, ← c.in_err-head-in-36.ensures)
+
+pub check_body-after-requires-in-36 : goal.check_body-after-requires-in-36
+check_body-after-requires-in-36 t c =
+    let x = head-reaches _ _ _ _ _ c.in_ok-head-in-36.ensures in
+    (x.low, x.high)
+
+pub check_body-returns-in_err-body-in-36 : goal.check_body-returns-in_err-body-in-36
+check_body-returns-in_err-body-in-36 t c =
+    let a = c.after-in-36.ensures in
+    rw (handed _ _ c.from_residual-in_err-body-in-36.ensures, for-is _ _ _ _ _ _ c.in-36.is, ← c.in_ok-head-in-36.ensures, ← a.bytes, ← a.at, ← a.start, ← c.in_err-body-in-36.ensures)
+
+pub check_body-more-requires-in-36 : goal.check_body-more-requires-in-36
+check_body-more-requires-in-36 t c =
+    let a = c.after-in-36 in
+    let y = reaches (steady-statement c.args.variables c.args.levels) a.result.start a.result.at a.result.bytes.now c.in_ok-body-in-36.ensures in
+    omega (arith, y.pays, y.high, a.ensures.ends, c.args.b.fits)
+
+pub check_body-returns-in_ok-body-in-36 : goal.check_body-returns-in_ok-body-in-36
+check_body-returns-in_ok-body-in-36 t c =
+    let a = c.after-in-36.ensures in
+    let m = c.more-in-36 in
+    rw (for-is _ _ _ _ _ _ c.in-36.is, ← c.in_ok-head-in-36.ensures, ← a.bytes, ← a.at, ← a.start, ← c.in_ok-body-in-36.ensures) (ap₂ found m.ensures.0 m.ensures.1)
 
 pub check_body-returns-in_default : goal.check_body-returns-in_default
 check_body-returns-in_default t c =
     let a = c.args in
-    let r = c.in_default.in_default-own.rest in
-    let f = r.0.0.0 in
-    sym
-    (other-is a.vars a.levels a.at (a.at + 4) a.b.now a.kind f.0.0.0.0.1 f.0.0.0.1 f.0.0.1 f.0.1 f.1
-    (λ k. r.0.0.1 (inl k)) r.0.1 (λ k. r.0.0.1 (inr k)) r.1)
+    rw (
+      c.refused.ensures,
+      other-is a.variables a.levels a.b.start a.b.at a.b.bytes.now a.kind
+          (λ k. omega arith) (λ k. omega arith) (λ k. omega arith) (λ k. omega arith)
+          (λ k. omega arith) (search rules) (λ k. omega arith) (λ k. omega arith),
+    )
 
 -- `check_if`
 
-pub check_if-then_statement-requires : goal.check_if-then_statement-requires
-check_if-then_statement-requires t c =
-    let a = c.args in
-    (omega arith, (omega arith, rw (c.check_condition.ensures 0) (condition-within a.vars a.levels 0 a.at a.s.now)))
+pub check_if-after-requires : goal.check_if-after-requires
+check_if-after-requires t c =
+    let b = c.args.b in
+    let x = reaches (steady-expression c.args.variables false c.args.levels 0 (omega arith)) b.start b.at b.bytes.now c.in_ok-condition.ensures in
+    (x.low, x.high)
 
-pub check_if-returns : goal.check_if-returns
-check_if-returns t c = λ start. rw (c.then_statement.ensures start, c.check_condition.ensures start)
+pub check_if-more-requires : goal.check_if-more-requires
+check_if-more-requires t c =
+    let a = c.after in
+    let x = reaches (steady-statement c.args.variables c.args.levels) a.result.start a.result.at a.result.bytes.now c.in_ok-then.ensures in
+    omega (arith, x.pays, x.high, a.ensures.ends, c.args.b.fits)
 
 -- `check_statement`
 
-pub check_statement-returns-then-n-lt4 : goal.check_statement-returns-then-n-lt4
-check_statement-returns-then-n-lt4 t c = λ start.
-    let a = c.args in
-    sym (ap (outcome step_count) (statement-short a.vars start a.at a.s.now a.levels (short a.s.now (omega arith))))
+pub check_statement-returns-in_err-record : goal.check_statement-returns-in_err-record
+check_statement-returns-in_err-record t c =
+    let r = c.in_err-record.ensures in
+    rw (handed _ _ c.from_residual.ensures, r.1, statement-short _ _ _ _ _ r.0)
 
 pub check_statement-returns-then-levels-eq0 : goal.check_statement-returns-then-levels-eq0
-check_statement-returns-then-levels-eq0 t c = λ start.
-    let a = c.args in
-    let w = long a.s.now _ c.record_len-n.ensures.0 (omega arith) in
-    sym (ap (outcome step_count) (statement-deep a.vars start a.at a.s.now a.levels c.if-levels-eq0.true w.is))
+check_statement-returns-then-levels-eq0 t c = rw (c.refused.ensures, statement-deep _ _ _ _ _ c.if-levels-eq0.true c.in_ok-record.ensures.is)
 
-pub check_statement-check_body-requires : goal.check_statement-check_body-requires
-check_statement-check_body-requires t c =
-    let r = c in
-    (omega arith, omega (arith, part_length 4 r.record_len-n.result r.args.s.now r.record_len-n.ensures.1))
+pub check_statement-returns-in_err-check_body : goal.check_statement-returns-in_err-check_body
+check_statement-returns-in_err-check_body t c =
+    rw (handed _ _ c.from_residual-in_err-check_body.ensures, statement-ended _ _ _ c.in_ok-record.ensures _ c.if-levels-eq0.false, ← c.in_err-check_body.ensures)
 
 pub check_statement-returns : goal.check_statement-returns
-unfolding kind_of
-check_statement-returns t c = λ start.
-    let a = c.args in
-    let r = c.record_len-n in
-    let w = long a.s.now r.result r.ensures.0 (omega arith) in
-    let u = c.u16_at-kind in
-    rw (c.close.ensures, c.check_body.ensures)
-    (sym (statement-ended a.vars start a.at a.s.now a.levels r.result u.result c.if-levels-eq0.false w u.ensures.0))
-
--- `then_statement`
-
--- where c ended
-fits : (at n m steps : ℕ) (c : Checked) → c ≡ Ok m steps → Within at n c → (at + steps ≤ m) × (m ≤ at + n)
-fits at n m steps c e w = subst (Within at n) e w
-
-pub then_statement-overflow_sub-i : goal.then_statement-overflow_sub-i
-then_statement-overflow_sub-i t c = omega (arith, (fits _ _ _ _ _ c.in-Ok.is c.requires.1).0)
-
-pub then_statement-slice_bounds-check_statement-count : goal.then_statement-slice_bounds-check_statement-count
-then_statement-slice_bounds-check_statement-count t c = omega (arith, (fits _ _ _ _ _ c.in-Ok.is c.requires.1).1)
-
-pub then_statement-slice_bounds-check_statement-start : goal.then_statement-slice_bounds-check_statement-start
-then_statement-slice_bounds-check_statement-start t c = omega (arith, (fits _ _ _ _ _ c.in-Ok.is c.requires.1).1)
-
-pub then_statement-check_statement-requires : goal.then_statement-check_statement-requires
-then_statement-check_statement-requires t c =
-    let a = c.args in
-    (omega arith, omega (arith, (fits _ _ _ _ _ c.in-Ok.is c.requires.1).0, (fits _ _ _ _ _ c.in-Ok.is c.requires.1).1, from-length (c.in-Ok.m - a.at) a.s.now))
-
-pub then_statement-overflow_add-result : goal.then_statement-overflow_add-result
-then_statement-overflow_add-result t c =
-    let a = c.args in
-    let m = c.in-Ok.m in
-    let w = fits _ _ _ _ _ c.in-Ok.is c.requires.1 in
-    let s = from (m - a.at) a.s.now in
-    let r = statement-read a.vars a.levels 0 m s (sym c.in-Ok-check_statement.is ∙ c.check_statement.ensures 0) in
-    omega (arith, w.0, w.1, r.pays, r.high, from-length (m - a.at) a.s.now)
-
-pub then_statement-returns-in-Refused : goal.then_statement-returns-in-Refused
-then_statement-returns-in-Refused t c = λ start. rw c.in-Refused.is
-
-pub then_statement-returns-in-Refused-check_statement : goal.then_statement-returns-in-Refused-check_statement
-then_statement-returns-in-Refused-check_statement t c = λ start.
-    let k = c.in-Ok in
-    rw (k.is, ← c.check_statement.ensures start, c.in-Refused-check_statement.is)
-
-pub then_statement-returns-in-Ok-check_statement : goal.then_statement-returns-in-Ok-check_statement
-then_statement-returns-in-Ok-check_statement t c = λ start.
-    let k = c.in-Ok in
-    rw (k.is, ← c.check_statement.ensures start, c.in-Ok-check_statement.is)
+check_statement-returns t c = rw (c.closed.ensures, statement-ended _ _ _ c.in_ok-record.ensures _ c.if-levels-eq0.false, ← c.in_ok-check_body.ensures)

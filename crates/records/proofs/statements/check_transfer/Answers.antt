@@ -1,20 +1,22 @@
 -- `check_transfer` meets its contract.
 use mathlib.Core.Bool.{false}
-use mathlib.Core.Path.{sym}
 use native.Mathlib.Omega.{arith}
-use Rattle.records.proofs.Readers.{steady-within, pair-onward}
+use Rattle.records.proofs.Readers.{handed, reaches, no-steps, added_none}
 use Rattle.records.proofs.ExpressionLaws.{steady-expression}
-use borrow.Author.Rules.{rules}
+use Rattle.records.proofs.StatementKinds.{transfer-onward}
 use Rattle.records.proofs.statements.check_transfer.Goals as goal
 
-pub then_expression-requires : goal.then_expression-requires
-then_expression-requires c =
-    let a = c.args in
-    let w = steady-within (steady-expression a.vars false a.levels 0 (omega arith)) 0 a.at a.s.now in
-    (omega arith, rw (c.check_expression-account.ensures 0) w)
+pub returns-in_err-account : goal.returns-in_err-account
+returns-in_err-account c = rw (handed _ _ c.from_residual.ensures, transfer-onward _ _ _ _ _, ← c.in_err-account.ensures)
+
+pub after-requires : goal.after-requires
+after-requires c =
+    let b = c.args.b in
+    let x = reaches (steady-expression c.args.variables false c.args.levels 0 (omega arith)) b.start b.at b.bytes.now c.in_ok-account.ensures in
+    (x.low, x.high)
 
 pub returns : goal.returns
-returns c = λ start.
-    let a = c.args in
-    let h = steady-expression a.vars false a.levels 0 (omega arith) in
-    rw (c.then_expression.ensures start, c.check_expression-account.ensures start) (sym (pair-onward h h start a.at a.s.now))
+returns c =
+    let a = c.after.ensures in
+    rw (transfer-onward _ _ _ _ _, ← c.in_ok-account.ensures, ← a.bytes, ← a.at, ← a.start, ← c.check_value-2.ensures)
+    (added_none _ _ (no-steps _ c.in_ok-account.ensures))

@@ -1,0 +1,16 @@
+// Why reading refuses.
+ghost use Rattle.std.specs.Prelude.{◌≡◌};
+
+// A refusal's number, and its place as wide as the numbers of `Checked`: a result whose halves lie alike is handed back without being
+// taken apart and put together again.
+#[derive(Clone, Copy, PartialEq, Eq)]
+pub struct Fault {
+    pub number: u8,
+    pub place: usize,
+}
+
+pub fn refused(number: u8, place: usize) -> Fault
+    ensures { result ≡ record { number = number; place = place } }
+{
+    Fault { number, place }
+}
