@@ -8,20 +8,21 @@ use native.Mathlib.Omega.{arith}
 use lib.Dec.{eqb, ltb, leb}
 use lib.ListN.{length, get_or, take, drop, length-drop}
 use lib.Seq.{drop-drop, get_or-drop}
-use borrow.Author.Tests.{ltb-true, leb-true, eqb-true, eqb-false}
+use borrow.Author.Tests.{ltb-true}
 use Rattle.rules.specs.declared.Call.{Call}
+use Rattle.std.specs.Prelude.{if◌then◌else◌}
 use Rattle.rules.specs.Basics.{choose, has, part, number}
 use Rattle.rules.specs.Syntax.{Expr, Transition, Rule, always, not_after, only_after}
 use Rattle.rules.specs.Reading.{read, Reader, fields, zero_byte, size_of, named}
 use Rattle.rules.specs.Reading.{comes, group, kind_of, expression, statement, transition_body, rule_body, row_body}
 use Rattle.records.specs.Checking.{no_steps}
-use Rattle.records.proofs.Parts.{both}
 use Rattle.records.proofs.Readers.{Steady, steady-pure, steady-refuse, steady-first, steady-other, steady-peek, steady-if, steady-range, steady-field, steady_then, steady-child}
 use Rattle.records.proofs.ExpressionLaws.{steady-expression, ends-expression}
 use Rattle.records.proofs.StatementLaws.{steady-statement, ends-statement}
-use Rattle.access.specs.declared.Head.{Head}
+use Rattle.access.specs.declared.RuleAt.{RuleAt}
+use Rattle.access.specs.declared.RuleAt.TheVariants.{Always, NotAfter, OnlyAfter}
 use Rattle.access.specs.Places.{action_at}
-use Rattle.access.specs.Answers.{numbers, head_of}
+use Rattle.access.specs.Answers.{numbers, rule_from}
 use Rattle.access.proofs.Inside.{Gives, gives-read, gives-range, gives-if, gives-field, gives-byte, gives-zero, gives-numbers, gives-child}
 use Rattle.access.proofs.Outside.{outs-expression, outs-statement, from-file}
 
@@ -109,9 +110,13 @@ pub record RowAt (A : ℕ) (file : List ℕ) (at : ℕ) (k : Call) : Type 0 wher
   pub sender_in : k.sender < A
   pub fits : at + 28 ≤ length file
 
--- a rule's type, p and q; and where it is type 1, its expression
-pub record RuleAt (vars : ℕ) (file : List ℕ) (at : ℕ) (r : Rule) : Type 0 where
-  pub head : head_of r ≡ record { kind = number (take 2 (drop (at + 4) file)); p = get_or file (at + 6) 0; q = get_or file (at + 7) 0 }
+-- a rule by the number of its type
+abbrev pub rule_by : (at type p q : ℕ) → RuleAt
+rule_by at type p q = if eqb type 1 then Always (at + 8) else if eqb type 2 then NotAfter p q else OnlyAfter p q
+
+-- a rule by its record; and where it is type 1, its expression
+pub record RuleRead (vars : ℕ) (file : List ℕ) (at : ℕ) (r : Rule) : Type 0 where
+  pub rule : rule_from at r ≡ rule_by at (number (take 2 (drop (at + 4) file))) (get_or file (at + 6) 0) (get_or file (at + 7) 0)
   pub condition : (e : Expr) → r ≡ always e → (end : ℕ) × (expression vars true 14 at (at + 8) (drop (at + 8) file) ≡ read e end (drop end file))
   pub fits : at + 8 ≤ length file
 
@@ -127,17 +132,6 @@ pub record TransitionAt (vars S : ℕ) (file : List ℕ) (at : ℕ) (t : Transit
   pub end : ℕ
   pub action : statement vars 14 at (action_at file at) (drop (action_at file at) file) ≡ read t.action end (drop end file)
   pub fits : at + 12 ≤ length file
-
-same_head : {k p q l r u : ℕ} → k ≡ l → p ≡ r → q ≡ u → ◌≡◌ {A = Head} (record { kind = k; p = p; q = q }) (record { kind = l; p = r; q = u })
-same_head a b c = λ i. record { kind = a i; p = b i; q = c i }
-
--- type 1 has p and q zero
-unnamed : (names : List ℕ) (t p : ℕ) → eqb t 1 ≡ true → named names t p ≡ true → p ≡ 0
-unfolding named
-unnamed names t p one h = eqb-true p 0 (rw one at h)
-
-last-type : (t : ℕ) → 1 ≤ t → t ≤ 3 → (t ≡ 1 → ⊥) → (t ≡ 2 → ⊥) → 3 ≡ t
-last-type t low high one two = omega arith
 
 module _ (file : List ℕ) (at n : ℕ) (high : n ≤ length (drop at file)) where
   -- n bytes of the file from here on
@@ -198,7 +192,7 @@ module _ (file : List ℕ) (at n : ℕ) (high : n ≤ length (drop at file)) whe
 
   -- ---- rules
 
-  pub gives-rule : (vars : ℕ) (names : List ℕ) → Gives (rule_body vars names at (at + 4) (part 4 n (drop at file))) (λ r to rest. RuleAt vars file at r)
+  pub gives-rule : (vars : ℕ) (names : List ℕ) → Gives (rule_body vars names at (at + 4) (part 4 n (drop at file))) (λ r to rest. RuleRead vars file at r)
   unfolding rule_body choose
   gives-rule vars names =
       let s = drop at file in
@@ -208,20 +202,19 @@ module _ (file : List ℕ) (at n : ℕ) (high : n ≤ length (drop at file)) whe
       let q = get_or-drop at file 7 0 in
       let m = size_of (drop (at + 8) file) in
       gives-field at at n s high 2 _ 4 6 (omega arith) refl λ _.
-      gives-range _ _ _ _ _ λ ht.
+      gives-range _ _ _ _ _ λ _.
       gives-byte at at n s high _ 6 7 refl λ _.
-      gives-range _ _ _ _ _ λ hp.
+      gives-range _ _ _ _ _ λ _.
       gives-byte at at n s high _ 7 8 refl λ fits.
-      gives-range _ _ _ _ _ λ hq.
+      gives-range _ _ _ _ _ λ _.
       let within-eight = within 8 (omega arith) fits in
-      let range = both (leb 1 t) (leb t 3) ht in
       gives-if (eqb t 1) _ _ at (at + 8) (part 8 n s)
       (λ one.
       gives-child at at n s high (ends-expression vars true 14) _ 8 m (sized 8) λ x hx fx lx.
       let reads = from-file (outs-expression vars true 14) at at 8 n file high m refl hx in
       gives-read (always x) _ _
       (record {
-        head = same_head (sym (eqb-true t 1 one) ∙ d) (sym (unnamed names t (get_or s 6 0) one hp) ∙ p) (sym (unnamed names t (get_or s 7 0) one hq) ∙ q);
+        rule = rw (← d, one);
         condition = λ e i.
             let z : x ≡ e = cc in
             (at + (8 + m), reads ∙ ap (λ (y : Expr). read y (at + (8 + m)) (drop (at + (8 + m)) file)) z);
@@ -231,8 +224,7 @@ module _ (file : List ℕ) (at n : ℕ) (high : n ≤ length (drop at file)) whe
       gives-if (eqb t 2) _ _ at (at + 8) (part 8 n s)
       (λ two.
       gives-read (not_after (get_or s 6 0) (get_or s 7 0)) _ _
-      (record { head = same_head (sym (eqb-true t 2 two) ∙ d) p q; condition = λ e i. absurd (let z : ◌≡◌ {A = ℕ} 0 1 = cc in omega arith); fits = within-eight }))
+      (record { rule = rw (← d, none, two, p, q); condition = λ e i. absurd (let z : ◌≡◌ {A = ℕ} 0 1 = cc in omega arith); fits = within-eight }))
       (λ other.
-      let three : 3 ≡ t = last-type t (leb-true 1 t range.0) (leb-true t 3 range.1) (eqb-false t 1 none) (eqb-false t 2 other) in
       gives-read (only_after (get_or s 6 0) (get_or s 7 0)) _ _
-      (record { head = same_head (three ∙ d) p q; condition = λ e i. absurd (let z : ◌≡◌ {A = ℕ} 0 1 = cc in omega arith); fits = within-eight })))
+      (record { rule = rw (← d, none, other, p, q); condition = λ e i. absurd (let z : ◌≡◌ {A = ℕ} 0 1 = cc in omega arith); fits = within-eight })))

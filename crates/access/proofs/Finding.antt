@@ -13,6 +13,7 @@ use borrow.Author.Tests.{eq-eqb, ne_eqb}
 use Rattle.rules.specs.Basics.{any, find, number}
 use Rattle.rules.specs.Syntax.{Transition, Agreement}
 use Rattle.rules.specs.Accepting.{first_repeat}
+use Rattle.rules.specs.Reading.{size_of}
 use Rattle.rules.specs.Calling.{known, transition_of}
 use Rattle.access.specs.declared.Found.{Found}
 use Rattle.access.specs.declared.Found.TheVariants.{At}
@@ -20,7 +21,6 @@ use Rattle.access.specs.declared.Layout.{Layout}
 use Rattle.access.specs.Trees.{TreeRead}
 use Rattle.access.specs.Places.{past, Laid}
 use Rattle.access.specs.Answers.{found_of, same}
-use Rattle.access.proofs.Groups.{room}
 use Rattle.access.proofs.Bodies.{TransitionAt}
 use Rattle.access.proofs.Items.{transition-items, laid}
 
@@ -30,9 +30,16 @@ pub record Here (file : List ℕ) (a : Agreement) (at i : ℕ) : Type 0 where
   pub here : drop i a.transitions ≡ value ∷ drop (suc i) a.transitions
   pub is : TransitionAt a.fields.variables a.fields.states file at value
 
-pub record Looked (file : List ℕ) (at : ℕ) : Type 0 where
-  pub fits : at + 12 ≤ length file
-  pub size : (n : ℕ) → n ≡ number (take 2 (drop at file)) → (4 ≤ n) × (at + n ≤ length file)
+module _ {file : List ℕ} {l : Layout} (h : Laid file l) (i : ℕ) (less : i < l.transitions.count) where
+  -- its fields are there, and its record ends within the file
+  pub transition_fits : past file l.transitions.at i + 12 ≤ length file
+  transition_fits = ((transition-items h.out).item i less).is.fits
+
+  pub transition_ends : past file l.transitions.at i + number (take 2 (drop (past file l.transitions.at i) file)) ≤ length file
+  unfolding size_of
+  transition_ends = ((transition-items h.out).item i less).stands.high
+
+pub ruleset transition_bounds = (transition_fits, transition_ends)
 
 module _ {file : List ℕ} {l : Layout} (h : Laid file l) (i at : ℕ) (less : i < l.transitions.count) (e : at ≡ past file l.transitions.at i) where
   pub here : (a : TreeRead file) → Here file a.tree at i
@@ -40,14 +47,6 @@ module _ {file : List ℕ} {l : Layout} (h : Laid file l) (i at : ℕ) (less : i
       let x = (transition-items (laid h a)).item i less in
       let f = a.tree.fields in
       record { value = x.value; here = x.here; is = subst (λ (k : ℕ). TransitionAt f.variables f.states file k x.value) (sym e) x.is }
-
-  -- its fields are there, and its record of n bytes
-  pub looked : Looked file at
-  looked =
-      record {
-        fits = (here h.read).is.fits;
-        size = λ n m. room l.transitions.at i at n e m ((transition-items h.out).item i less).stands;
-      }
 
 -- all of them have been passed
 pub all-passed : {file : List ℕ} {l : Layout} → Laid file l → (a : TreeRead file) (i : ℕ) → l.transitions.count ≤ i → drop i a.tree.transitions ≡ []

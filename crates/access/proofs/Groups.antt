@@ -113,6 +113,10 @@ room {file} at i e n is m s =
     let z = ap (λ (k : ℕ). number (take 2 (drop k file))) is in
     (omega (arith, s.low), omega (arith, s.high))
 
+pub past_more : (file : List ℕ) (at i : ℕ) → past file at (i + 1) ≡ past file at i + number (take 2 (drop (past file at i) file))
+unfolding size_of
+past_more file at i = rw add-one (past_next file at i)
+
 -- one record further
 pub further : (file : List ℕ) (at i e n : ℕ) → e ≡ past file at i → n ≡ number (take 2 (drop e file)) → e + n ≡ past file at (i + 1)
 unfolding size_of

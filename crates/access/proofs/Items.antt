@@ -1,7 +1,7 @@
 -- The children of a file by their places: the i-th transition, row and rule.
 -- Assumes nothing.
 use Prim.Native.Nat.{ℕ, zero, suc, ◌+◌, ◌≤◌, ◌<◌}
-use mathlib.Core.Path.{◌≡◌, sym, ap, subst, subst₂, ◌∙◌}
+use mathlib.Core.Path.{◌≡◌, refl, sym, ap, subst, subst₂, ◌∙◌}
 use mathlib.Core.List.{List, [], ◌∷◌, map}
 use mathlib.Core.Option.{some}
 use native.Mathlib.Omega.{arith}
@@ -16,10 +16,10 @@ use Rattle.access.specs.declared.Group.{Group}
 use Rattle.access.specs.declared.Layout.{Layout}
 use Rattle.access.specs.Trees.{TreeRead}
 use Rattle.access.specs.Places.{past, Stands, InRow, Children, Holds, LaidOut, Laid}
-use Rattle.access.specs.Answers.{head_of}
+use Rattle.access.specs.Answers.{rule_from}
 use Rattle.access.proofs.Inside.{Gives}
 use Rattle.access.proofs.Groups.{group-read}
-use Rattle.access.proofs.Bodies.{TransitionAt, RowAt, RuleAt, steady-transition, steady-row, steady-rule, gives-transition, gives_row, gives-rule}
+use Rattle.access.proofs.Bodies.{TransitionAt, RowAt, RuleRead, rule_by, steady-transition, steady-row, steady-rule, gives-transition, gives_row, gives-rule}
 
 -- the i-th of the children from `at` on, with what is known of its record
 pub record Item {A : Type 0} (P : ℕ → A → Type 0) (file : List ℕ) (at : ℕ) (xs : List A) (i : ℕ) : Type 0 where
@@ -77,7 +77,7 @@ module _ {file : List ℕ} {a : Agreement} {l : Layout} (o : LaidOut file a l) w
   pub row-items : Items (RowAt a.fields.accounts file) 16 3 file l.rows a.rows
   row-items = items (steady-row a.fields.accounts) (λ at n h. gives_row file at n h a.fields.accounts) o.rows
 
-  pub rule-items : Items (RuleAt a.fields.variables file) 8 4 file l.rules a.rules
+  pub rule-items : Items (RuleRead a.fields.variables file) 8 4 file l.rules a.rules
   rule-items =
       let names = map (λ (t : Transition). t.name) a.transitions in
       items (steady-rule a.fields.variables names) (λ at n h. gives-rule file at n h a.fields.variables names) o.rules
@@ -110,7 +110,7 @@ elem-here [] (suc i) x ys h = absurd (let z : ◌≡◌ {A = ℕ} 0 1 = cc in om
 elem-here (y ∷ xs) zero x ys h = let z : y ≡ x = cc in ap some z
 elem-here (y ∷ xs) (suc i) x ys h = elem-here xs i x ys h
 
-elem-map : {A B : Type 0} (f : A → B) (xs : List A) (i : ℕ) (x : A) → get_elem? xs i ≡ some x → get_elem? (map f xs) i ≡ some (f x)
+pub elem-map : {A B : Type 0} (f : A → B) (xs : List A) (i : ℕ) (x : A) → get_elem? xs i ≡ some x → get_elem? (map f xs) i ≡ some (f x)
 elem-map f [] i x h = absurd (let z : ◌≡◌ {A = ℕ} 0 1 = cc in omega arith)
 elem-map f (y ∷ xs) zero x h = let z : y ≡ x = cc in ap (λ w. some (f w)) z
 elem-map f (y ∷ xs) (suc i) x h = elem-map f xs i x h
@@ -126,11 +126,14 @@ module _ {file : List ℕ} {l : Layout} (h : Laid file l) (i : ℕ) (less : i < 
       let x = (row-items (laid h a)).item i less in
       subst₂ (RowAt a.tree.fields.accounts file) (sym e) (sym (get_d-here a.tree.rows i x.value no_call _ x.here)) x.is
 
+  pub row_fits : past file l.rows.at i + 28 ≤ length file
+  row_fits = (row_at h.read (past file l.rows.at i) refl).fits
+
 -- a rule, at its offset
 pub record RuleHere (file : List ℕ) (a : Agreement) (at i : ℕ) : Type 0 where
   pub value : Rule
   pub here : get_elem? a.rules i ≡ some value
-  pub is : RuleAt a.fields.variables file at value
+  pub is : RuleRead a.fields.variables file at value
 
 module _ {file : List ℕ} {l : Layout} (h : Laid file l) (i : ℕ) (less : i < l.rules.count) where
   pub rule-before : InRow file l.rules.at i
@@ -142,9 +145,16 @@ module _ {file : List ℕ} {l : Layout} (h : Laid file l) (i : ℕ) (less : i < 
       record {
         value = x.value;
         here = elem-here a.tree.rules i x.value _ x.here;
-        is = subst (λ (k : ℕ). RuleAt a.tree.fields.variables file k x.value) (sym e) x.is;
+        is = subst (λ (k : ℕ). RuleRead a.tree.fields.variables file k x.value) (sym e) x.is;
       }
 
-pub head_at : {file : List ℕ} {a : Agreement} {at i : ℕ} → RuleHere file a at i → (k : ℕ) → k ≡ number (take 2 (drop (at + 4) file)) →
-    get_elem? (map head_of a.rules) i ≡ some (record { kind = k; p = get_or file (at + 6) 0; q = get_or file (at + 7) 0 })
-head_at {file} {a} {at} {i} r k e = elem-map head_of a.rules i r.value r.here ∙ ap some (r.is.head ∙ rw e)
+  pub rule_fits : past file l.rules.at i + 8 ≤ length file
+  rule_fits = (rule-at h.read (past file l.rules.at i) refl).is.fits
+
+  -- the rule by the number of its type
+  pub rule-is :
+      (a : TreeRead file) (at type : ℕ) → at ≡ past file l.rules.at i → type ≡ number (take 2 (drop (at + 4) file)) →
+      get_elem? (map (rule_from (past file l.rules.at i)) a.tree.rules) i ≡ some (rule_by at type (get_or file (at + 6) 0) (get_or file (at + 7) 0))
+  rule-is a at type e n =
+      let r = rule-at a at e in
+      rw (← e) (elem-map (rule_from at) a.tree.rules i r.value r.here ∙ ap some (r.is.rule ∙ rw n))

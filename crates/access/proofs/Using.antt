@@ -1,11 +1,11 @@
 -- What other crates go by: the bounds of a tree that was read, the actions and conditions at their offsets, and what the
 -- functions' answers say of the tree.
 -- Assumes nothing.
-use Rattle.std.specs.Prelude.{if◌then◌else◌}
-use Prim.Native.Nat.{ℕ, zero, suc, ◌+◌, ◌≤◌, ◌<◌}
+use Rattle.std.specs.Prelude.{if◌then◌else◌, Ok, Err}
+use Prim.Native.Nat.{ℕ, suc, ◌+◌, ◌≤◌, ◌<◌}
 use mathlib.Core.Path.{◌≡◌, refl, sym, ap, subst, ◌∙◌}
 use mathlib.Core.Bool.{Bool, true, false}
-use mathlib.Core.List.{List, [], ◌∷◌, map}
+use mathlib.Core.List.{List, [], ◌∷◌}
 use mathlib.Core.Option.{Option, none, some}
 use native.Mathlib.Omega.{arith}
 use lib.Dec.{ltb}
@@ -13,10 +13,9 @@ use borrow.Author.Tests.{ltb-false}
 use lib.ListN.{length, get_or, get_elem?, drop, length-drop}
 use Rattle.rules.specs.declared.Call.{Call}
 use Rattle.rules.specs.Basics.{given, find, sum, most32}
-use Rattle.rules.specs.Syntax.{Expr, Stmt, Transition, Rule, always, not_after, only_after, Agreement}
+use Rattle.rules.specs.Syntax.{Expr, Stmt, Transition, always, Agreement}
 use Rattle.rules.specs.Reading.{Reading, refused, read, expression, statement, read_tree}
 use Rattle.rules.specs.Expanding.{expansion}
-use Rattle.rules.specs.declared.Counted.TheVariants.{Steps, Refused}
 use Rattle.rules.specs.declared.Refusal.{Refusal}
 use Rattle.rules.specs.Accepting.{File, bad, good, refusal_at, first_repeat, sized, accept, accepted, file_of, on_file, read_file}
 use Rattle.rules.specs.Calling.{known, transition_of, no_call}
@@ -26,11 +25,10 @@ use Rattle.records.proofs.ExpressionLaws.{ends-expression}
 use Rattle.records.proofs.StatementLaws.{ends-statement}
 use Rattle.access.specs.declared.Found.TheVariants.{Unknown, Elsewhere, At}
 use Rattle.access.specs.declared.Group.{Group}
-use Rattle.access.specs.declared.Head.{Head}
 use Rattle.access.specs.declared.Layout.{Layout}
 use Rattle.access.specs.Trees.{TreeRead, AcceptedFile}
 use Rattle.access.specs.Places.{past, Laid, action_at}
-use Rattle.access.specs.Answers.{found_of, same, head_of}
+use Rattle.access.specs.Answers.{found_of, same}
 use Rattle.access.proofs.Heads.{Bounded}
 use Rattle.access.proofs.Trees.{tree-parts}
 use Rattle.access.proofs.Bodies.{TransitionAt}
@@ -80,19 +78,19 @@ unfolding file_of accepted
 few-steps a = let t = tree_of a in (accept-good a.tree a.tree (sym (ap accepted t.is) ∙ a.is)).1
 
 -- a file whose steps were counted is accepted
-pub counted-file : (file : List ℕ) (n : ℕ) → Steps n ≡ read_file file → (a : AcceptedFile file) × (n ≡ length (expansion a.tree))
+pub counted-file : (file : List ℕ) (n : ℕ) → Ok n ≡ read_file file → (a : AcceptedFile file) × (n ≡ length (expansion a.tree))
 unfolding read_file on_file
 counted-file file n h = go (file_of file) refl h
   where
-    go : (f : File) → file_of file ≡ f → Steps n ≡ on_file Refused (λ a. Steps (length (expansion a))) f → (a : AcceptedFile file) × (n ≡ length (expansion a.tree))
+    go : (f : File) → file_of file ≡ f → Ok n ≡ on_file Err (λ a. Ok (length (expansion a))) f → (a : AcceptedFile file) × (n ≡ length (expansion a.tree))
     go (bad r) e h = absurd (let z : ◌≡◌ {A = ℕ} 0 1 = cc in omega arith)
     go (good a) e h = (record { tree = a; is = e }, cc)
 
-pub refused-file : (file : List ℕ) (r : Refusal) → Refused r ≡ read_file file → file_of file ≡ bad r
+pub refused-file : (file : List ℕ) (r : Refusal) → Err r ≡ read_file file → file_of file ≡ bad r
 unfolding read_file on_file
 refused-file file r h = go (file_of file) h
   where
-    go : (f : File) → Refused r ≡ on_file Refused (λ a. Steps (length (expansion a))) f → f ≡ bad r
+    go : (f : File) → Err r ≡ on_file Err (λ a. Ok (length (expansion a))) f → f ≡ bad r
     go (bad x) h = cc
     go (good a) h = absurd (let z : ◌≡◌ {A = ℕ} 0 1 = cc in omega arith)
 
@@ -273,33 +271,6 @@ module _ {file : List ℕ} (a : TreeRead file) (name state : ℕ) where
   find-unknown h = found-unknown _ _ h
 
 -- ---- rules
-
--- a rule by its head
-pub record RuleOf (rs : List Rule) (i : ℕ) (r : Head) : Type 0 where
-  pub one : r.kind ≡ 1 → (e : Expr) × (get_elem? rs i ≡ some (always e))
-  pub two : r.kind ≡ 2 → get_elem? rs i ≡ some (not_after r.p r.q)
-  pub three : (r.kind ≡ 1 → ⊥) → (r.kind ≡ 2 → ⊥) → get_elem? rs i ≡ some (only_after r.p r.q)
-
-by-head : (x : Rule) (r : Head) → head_of x ≡ r → RuleOf (x ∷ []) 0 r
-by-head (always e) r h =
-    let k : 1 ≡ r.kind = ap (λ (r : Head). r.kind) h in
-    record { one = λ _. (e, refl); two = λ z. absurd (omega arith); three = λ n _. absurd (n (sym k)) }
-by-head (not_after p q) r h =
-    let k : 2 ≡ r.kind = ap (λ (r : Head). r.kind) h in
-    let e = ap (λ (r : Head). some (not_after r.p r.q)) h in
-    record { one = λ z. absurd (omega arith); two = λ _. e; three = λ _ n. absurd (n (sym k)) }
-by-head (only_after p q) r h =
-    let k : 3 ≡ r.kind = ap (λ (r : Head). r.kind) h in
-    let e = ap (λ (r : Head). some (only_after r.p r.q)) h in
-    record { one = λ z. absurd (omega arith); two = λ z. absurd (omega arith); three = λ _ _. e }
-
-pub rule-of : (rs : List Rule) (i : ℕ) (r : Head) → get_elem? (map head_of rs) i ≡ some r → RuleOf rs i r
-rule-of [] i r h = absurd (let z : ◌≡◌ {A = ℕ} 0 1 = cc in omega arith)
-rule-of (x ∷ rs) zero r h =
-    let z : head_of x ≡ r = cc in
-    let w = by-head x r z in
-    record { one = w.one; two = w.two; three = w.three }
-rule-of (x ∷ rs) (suc i) r h = let w = rule-of rs i r h in record { one = w.one; two = w.two; three = w.three }
 
 -- the expression of a rule of type 1
 pub condition-at :

@@ -1,13 +1,13 @@
 -- What the functions answer, from the tree.
-use Rattle.std.specs.Prelude.{ℕ, zero, suc, ◌+◌, Bool, true, false, ◌&&◌, List, [], ◌∷◌, eqb, take, drop}
+use Rattle.std.specs.Prelude.{ℕ, zero, suc, ◌+◌, Bool, true, false, ◌&&◌, List, [], ◌∷◌, eqb, take, drop, Some, None}
+use Rattle.std.specs.Prelude
 use Rattle.std.proofs.Math.Option.{Option, none, some}
 use Rattle.rules.specs.Basics.{number}
 use Rattle.rules.specs.Syntax.{Transition, Rule, always, not_after, only_after}
 use Rattle.access.specs.declared.Found.{Found}
 use Rattle.access.specs.declared.Found.TheVariants.{Unknown, Elsewhere, At}
-use Rattle.access.specs.declared.Head.{Head}
-use Rattle.access.specs.declared.Repeat.{Repeat}
-use Rattle.access.specs.declared.Repeat.TheVariants.{Nowhere, At as RepeatAt}
+use Rattle.access.specs.declared.RuleAt.{RuleAt}
+use Rattle.access.specs.declared.RuleAt.TheVariants.{Always, NotAfter, OnlyAfter}
 
 -- k numbers of 32 bits, one after another from the b-th byte on
 unfoldable pub numbers : (k b : ℕ) (bytes : List ℕ) → List ℕ
@@ -24,12 +24,13 @@ found_of false none = Unknown
 abbrev pub same : (name from : ℕ) → Transition → Bool
 same name from t = eqb t.name name && eqb t.from from
 
-abbrev pub repeat_of : Option ℕ → Repeat
-repeat_of none = Nowhere
-repeat_of (some at) = RepeatAt at
+-- the code's option
+abbrev pub repeat_of : Option ℕ → Prelude.Option ℕ
+repeat_of none = None
+repeat_of (some at) = Some at
 
--- a rule's type, and its p and q
-abbrev pub head_of : Rule → Head
-head_of (always e) = record { kind = 1; p = 0; q = 0 }
-head_of (not_after p q) = record { kind = 2; p = p; q = q }
-head_of (only_after p q) = record { kind = 3; p = p; q = q }
+-- a rule whose record begins at an offset: an expression stands 8 bytes after it
+abbrev pub rule_from : (at : ℕ) → Rule → RuleAt
+rule_from at (always e) = Always (at + 8)
+rule_from at (not_after p q) = NotAfter p q
+rule_from at (only_after p q) = OnlyAfter p q

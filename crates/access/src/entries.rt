@@ -6,14 +6,15 @@ ghost use Rattle.std.proofs.Math.ListN.{get_elem?};
 ghost use Rattle.rules.specs.Calling.{no_call};
 ghost use Rattle.access.specs.Trees.{TreeRead};
 ghost use Rattle.access.specs.Places.{past, Laid};
-ghost use Rattle.access.specs.Answers.{head_of};
+ghost use Rattle.access.specs.Answers.{rule_from};
 
 use crate::places::nth;
-use crate::{Head, Layout};
+use crate::{Layout, RuleAt};
 use records::bytes::{u16_at, u32_at};
 use rules::Call;
 
 // The i-th call row.
+#[tactic(auto, using(crate::proofs::Items::row_fits))]
 pub fn row(file: &[u8], l: Layout, i: usize) -> Call
     requires { Laid file.now l × (i < l.rows.count) }
     ensures { (a : TreeRead file.now) → result ≡ get_or a.tree.rows i no_call }
@@ -32,23 +33,18 @@ pub fn row(file: &[u8], l: Layout, i: usize) -> Call
     }
 }
 
-// Where the i-th rule begins.
-pub fn rule(file: &[u8], l: Layout, i: usize) -> usize
+// The i-th rule. An expression stands 8 bytes after where its rule begins.
+#[tactic(auto, using(crate::proofs::Items::rule_fits))]
+pub fn rule(file: &[u8], l: Layout, i: usize) -> RuleAt
     requires { Laid file.now l × (i < l.rules.count) }
-    ensures { result ≡ past file.now l.rules.at i }
+    ensures { (a : TreeRead file.now) → get_elem? (map (rule_from (past file.now l.rules.at i)) a.tree.rules) i ≡ some result }
 {
-    nth(file, l.rules.at, i)
-}
-
-// The type, p and q of the i-th rule.
-pub fn rule_head(file: &[u8], l: Layout, i: usize) -> Head
-    requires { Laid file.now l × (i < l.rules.count) }
-    ensures { (a : TreeRead file.now) → get_elem? (map head_of a.tree.rules) i ≡ some result }
-{
-    let at = rule(file, l, i);
-    Head {
-        kind: u16_at(file, at + 4),
-        p: file[at + 6],
-        q: file[at + 7],
+    let at = nth(file, l.rules.at, i);
+    let p = file[at + 6];
+    let q = file[at + 7];
+    match u16_at(file, at + 4) {
+        1 => RuleAt::Always(at + 8),
+        2 => RuleAt::NotAfter { p, q },
+        _ => RuleAt::OnlyAfter { p, q },
     }
 }

@@ -33,17 +33,10 @@ pub enum Found {
     At(usize),
 }
 
-// Where the first transition begins that repeats an earlier one's name and origin.
+// A rule: where the expression of an `Always` begins, or the names p and q.
 #[derive(Clone, Copy)]
-pub enum Repeat {
-    Nowhere,
-    At(usize),
-}
-
-// A rule's type, and its p and q.
-#[derive(Clone, Copy)]
-pub struct Head {
-    pub kind: usize,
-    pub p: u8,
-    pub q: u8,
+pub enum RuleAt {
+    Always(usize),
+    NotAfter { p: u8, q: u8 },
+    OnlyAfter { p: u8, q: u8 },
 }

@@ -6,31 +6,23 @@ ghost use Rattle.access.specs.Places.{past, comes_at, InRow, Children, LaidOut};
 use crate::{Group, Layout};
 use records::bytes::u16_at;
 
-// A byte, as wide as an offset.
-pub fn wide(x: u8) -> usize
-    ensures { result ≡ x }
-{
-    x as usize
-}
-
-// Whether a record of this kind begins here.
+// Whether a record of this kind begins here. `files` has a test like it on what is left of a record, which the rules ask for there.
 fn comes(file: &[u8], at: usize, kind: usize) -> bool
     requires { at ≤ length file.now }
     ensures { result ≡ comes_at kind file.now at }
 {
-    if file.len() - at < 4 {
-        return false;
-    }
-    u16_at(file, at + 2) == kind
+    4 <= file.len() - at && u16_at(file, at + 2) == kind
 }
 
 // The children of this kind from here on.
+#[tactic(auto, using(crate::proofs::Groups::past_more, crate::proofs::Groups::goes_on))]
 fn children(file: &[u8], at: usize, kind: usize) -> Group
     requires { Children kind file.now at }
     ensures { (c : Children kind file.now at) → result ≡ record { at = at; count = c.count; end = past file.now at c.count } }
 {
     let mut end = at;
     let mut count = 0;
+    // No `for`: where they end is a test.
     while comes(file, end, kind) {
         end += u16_at(file, end);
         count += 1;
@@ -39,11 +31,12 @@ fn children(file: &[u8], at: usize, kind: usize) -> Group
 }
 
 // Where the parts begin: each where the one before it ends.
+#[tactic(auto, using(crate::proofs::Layouts::twenty))]
 pub fn layout(file: &[u8]) -> Layout
     requires { TreeRead file.now }
     ensures { (a : TreeRead file.now) → LaidOut file.now a.tree result }
 {
-    let initial = 16 + 4 * wide(file[6]);
+    let initial = 16 + 4 * usize::from(file[6]);
     let fallback = initial + u16_at(file, initial);
     let transitions = children(file, fallback + u16_at(file, fallback), 2);
     let rows = children(file, transitions.end, 3);
@@ -58,15 +51,15 @@ pub fn layout(file: &[u8]) -> Layout
 }
 
 // Where the i-th of the records in a row from `at` on begins.
+// Loops over records keep the offset themselves: over an iterator of records they were tried, and their proofs were longer.
+#[tactic(auto, using(crate::proofs::Groups::past_more))]
 pub fn nth(file: &[u8], at: usize, i: usize) -> usize
     requires { InRow file.now at i }
     ensures { result ≡ past file.now at i }
 {
     let mut to = at;
-    let mut k = 0;
-    while k < i {
+    for _ in 0..i {
         to += u16_at(file, to);
-        k += 1;
     }
     to
 }

@@ -1,20 +1,20 @@
--- What was added and the sum of what is left make the whole sum.
-use native.Mathlib.Omega.{arith}
-use Rattle.access.proofs.Sums.{sum-from, sum-none, opening-eight}
+-- There are eight balances.
+use Rattle.std.proofs.Common.{rules, arith, ◌∙◌}
+use borrow.Author.Tests.{tests}
+use Rattle.std.proofs.lemmas.Iterator.{YieldsList-from_slice, YieldsList-from_map}
+use Rattle.std.proofs.lemmas.Iterator.Adapters.{fits_from_length, at_most_from_yields_List}
+use Rattle.std.proofs.lemmas.Iterator.Consumers.{sum_from_yields_List}
+use Rattle.access.proofs.Sums.{sum-same, opening-eight}
 use Rattle.access.proofs.fields.opening_sum.Goals as goal
 
-pub loop-i-init : goal.loop-i-init
-loop-i-init c = omega arith
-
-pub overflow_add-n : goal.overflow_add-n
-overflow_add-n c = omega arith
-
-pub loop-i-preserved : goal.loop-i-preserved
-loop-i-preserved c =
+pub sum-requires-clause-fits : goal.sum-requires-clause-fits
+sum-requires-clause-fits c =
     let l = opening-eight c.args.f _ c.well_formed.0 in
-    omega (arith, sum-from c.args.f.opening c.loop-i.i (omega arith))
+    fits_from_length _ _ 8 _ (at_most_from_yields_List (YieldsList-from_slice c.args.f.opening cc) (omega arith)) c.map.ensures.closure (omega arith)
+    (λ x r q k. search (rules, tests))
 
 pub returns : goal.returns
 returns c =
-    let l = opening-eight c.args.f _ c.well_formed.0 in
-    omega (arith, sum-none c.args.f.opening c.loop-i.i (omega arith))
+    sum_from_yields_List c.map.result c.sum.result c.sum.ensures.ran
+    (YieldsList-from_map _ (λ x. x) (YieldsList-from_slice c.args.f.opening cc) c.map.ensures.closure (λ x r q k. search rules))
+    ∙ sum-same c.args.f.opening

@@ -27,12 +27,6 @@ loop-end-init c = (refl, c.requires.within, omega arith, λ g. omega arith)
 pub u16_at-end-requires : goal.u16_at-end-requires
 u16_at-end-requires c = omega (arith, one c _ refl)
 
-pub overflow_add-end : goal.overflow_add-end
-overflow_add-end c = omega (arith, one (goal.at.overflow_add-end c).In-loop-end _ c.u16_at-end.ensures.0)
-
-pub overflow_add-count : goal.overflow_add-count
-overflow_add-count c = omega (arith, one (goal.at.overflow_add-count c).In-loop-end _ c.u16_at-end.ensures.0)
-
 pub loop-end-smaller : goal.loop-end-smaller
 loop-end-smaller c = omega (arith, one (goal.at.loop-end-smaller c).In-loop-end _ c.u16_at-end.ensures.0)
 
@@ -54,6 +48,3 @@ returns c =
     λ g.
     let z = stops g c.loop-end.count c.loop-end.end v.0 (v.3 g) (sym c.loop-end-test.false ∙ c.comes.ensures) in
     group-same a.at z (v.0 ∙ ap (past a.file.now a.at) z)
-
-pub comes-requires : goal.comes-requires
-comes-requires c = c.loop-end.invariant.1

@@ -1,4 +1,3 @@
-use Prim.Native.Nat.{◌-◌, ◌≤◌}
 use mathlib.Core.Path.{◌≡◌}
 use Rattle.access.specs.Trees.{TreeRead}
 use Rattle.access.specs.Places.{past}
@@ -6,7 +5,4 @@ use Rattle.access.proofs.Finding.{Passed}
 use Rattle.access.proofs.transitions.first_repeat.Given as goal
 
 abbrev pub invariant-loop-i : goal.invariant-loop-i
-invariant-loop-i l = (l.i ≤ l.n) × (l.at ≡ past l.file l.initial.at l.i) × ((a : TreeRead l.file) → Passed a.tree.transitions l.i)
-
-abbrev pub decreases-loop-i : goal.decreases-loop-i
-decreases-loop-i l = l.n - l.i
+invariant-loop-i l = (l.at ≡ past l.file l.initial.at l.i) × ((a : TreeRead l.file) → Passed a.tree.transitions l.i)

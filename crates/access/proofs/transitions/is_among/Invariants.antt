@@ -1,4 +1,3 @@
-use Prim.Native.Nat.{◌-◌, ◌≤◌}
 use mathlib.Core.Path.{◌≡◌}
 use lib.ListN.{take}
 use Rattle.rules.specs.Basics.{any}
@@ -8,9 +7,6 @@ use Rattle.access.specs.Places.{past}
 use Rattle.access.specs.Answers.{same}
 use Rattle.access.proofs.transitions.is_among.Given as goal
 
-abbrev pub invariant-loop-i : goal.invariant-loop-i
-invariant-loop-i l =
-    (l.i ≤ l.n) × (l.at ≡ past l.file l.initial.at l.i) × ((a : TreeRead l.file) → any (same l.name l.from) (take l.i a.tree.transitions) ≡ false)
-
-abbrev pub decreases-loop-i : goal.decreases-loop-i
-decreases-loop-i l = l.n - l.i
+abbrev pub invariant-loop : goal.invariant-loop
+invariant-loop l =
+    (l.at ≡ past l.file l.initial.at l.counter) × ((a : TreeRead l.file) → any (same l.name l.from) (take l.counter a.tree.transitions) ≡ false)
