@@ -1,59 +1,67 @@
--- Statements of one step, from the flow that the code makes of their values.
--- Assumes nothing.
-use Prim.Native.Nat.{ℕ, ◌≤◌, ◌<◌}
-use mathlib.Core.Path.{◌≡◌, refl}
-use mathlib.Core.Bool.{Bool, true, false}
-use mathlib.Core.List.{List}
-use mathlib.Core.Logic.{inl, inr}
-use lib.Dec.{eqb, ltb}
-use borrow.Author.Tests.{eqb-true, eqb-false, ltb-true, ltb-false}
+-- Statements of one step, conditions and guards, from the charge and what the code finds in their records.
+use Rattle.std.proofs.Common.{◌≡◌, ℕ, ◌+◌, Bool, List, sym, ◌∙◌}
+use Rattle.std.specs.Prelude.{Result, Ok, IsErrAnd}
 use Rattle.rules.specs.declared.Machine.{Machine}
-use Rattle.rules.specs.declared.Value.{Value}
-use Rattle.rules.specs.Syntax.{Expr, Simple, set, transfer, require, return}
-use Rattle.rules.specs.Values.{evaluate}
-use Rattle.rules.specs.Running.{Setting, going, view, charge, perform}
-use Rattle.rules.specs.Reading.{size_of, kind_of}
-use Rattle.records.specs.Acceptance.{Good}
-use Rattle.records.proofs.Goods as laws
-use Rattle.records.proofs.Goods.{OneStep}
-use Rattle.machine.specs.Flows.{Flow, flow_of, Target, assign_value, pay_values, answer_value, demand_value}
-use Rattle.machine.proofs.Performing.{perform-set, perform-transfer, perform-require, perform-return}
+use Rattle.rules.specs.declared.Setting.{Setting}
+use Rattle.rules.specs.Basics.{part}
+use Rattle.rules.specs.Values.{Value, evaluate}
+use Rattle.rules.specs.Running.{going, view, charge, perform, condition, guarded}
+use Rattle.records.specs.Acceptance.{Accepted, GoodSimple}
+use Rattle.records.proofs.Simples as laws
+use Rattle.machine.specs.declared.Stop.{Stop}
+use Rattle.machine.specs.Runs.{stopped_by, ran, Solvent, assign_value, pay_values, answer_value, demand_value, test_value}
+use Rattle.machine.proofs.Performing.{perform-set, perform-transfer, perform-require, perform-return, condition-tests, guarded-demands, perform-ends, condition-ends, guarded-ends}
+use Rattle.machine.proofs.Runs.{ran_err}
+use Rattle.machine.proofs.Keeping.{ran-keeps, charge-keeps, still-solvent}
+use Rattle.actions.proofs.Fields.{long_is, kind_is}
+use Rattle.actions.proofs.Leaves.{kind}
+use Rattle.actions.proofs.Operations.{size}
+use Rattle.actions.proofs.Simples.{first}
 
-pub target-of : (t : ℕ) → (t < 256 → t < 16) → t < 264 → Target t
-target-of t small large = go (ltb t 256) refl
-  where
-    go : (b : Bool) → ltb t 256 ≡ b → Target t
-    go true e = inl (small (ltb-true t 256 e))
-    go false e = let h : 256 ≤ t = ltb-false t 256 e in inr (h, large)
+pub charged_solvent : (l : ℕ) (m : Machine) {w : Machine} → going tt w ≡ charge l m → Solvent m → Solvent w
+charged_solvent l m charged h = still-solvent (ran-keeps (Ok tt) _ charged (charge-keeps l m)) h
 
 -- the charge went through and left w
-module _ (c : Setting) {l : ℕ} (limit : l ≡ c.fields.limit) (m : Machine) {w : Machine} (charged : charge l m ≡ going tt w) {f : Flow} where
-  pub set-flow : {x : Simple} {i t : ℕ} {e : Expr} {v : Value} → f ≡ flow_of (assign_value i v w) → i ≡ t → v ≡ evaluate (view c w) e
-      → x ≡ set t e → f ≡ flow_of (perform c x m)
-  set-flow {t = t} {e} {v} is same h tree = rw (tree, perform-set c limit m charged t e v h, ← same) is
+module _ (c : Setting) (m : Machine) {l : ℕ} {w : Machine} (limit : l ≡ c.fields.limit) (charged : going tt w ≡ charge l m) where
+  is : charge c.fields.limit m ≡ going tt w
+  is = rw (← limit) (sym charged)
 
-  pub transfer-flow : {x : Simple} {a : ℕ} {k e : Expr} {i v : Value} → f ≡ flow_of (pay_values a i v w) → a ≡ c.fields.accounts
-      → i ≡ evaluate (view c w) k → v ≡ evaluate (view c w) e → x ≡ transfer k e → f ≡ flow_of (perform c x m)
-  transfer-flow {k = k} {e} {i} {v} is same g h tree = rw (tree, perform-transfer c limit m charged same k e i v g h) is
+  pub condition_does : {s : List ℕ} {v : Value} → ((a : Accepted s) → v ≡ evaluate (view c w) a.tree) → (a : Accepted s) → test_value v w ≡ condition c a.tree m
+  condition_does h a = sym (condition-tests c m is _ _ (h a))
 
-  pub require-flow : {x : Simple} {e : Expr} {v : Value} → f ≡ flow_of (demand_value 25 25 v w) → v ≡ evaluate (view c w) e
-      → x ≡ require e → f ≡ flow_of (perform c x m)
-  require-flow {e = e} {v} is h tree = rw (tree, perform-require c limit m charged e v h) is
+  pub guard_does : {s : List ℕ} {v : Value} → ((a : Accepted s) → v ≡ evaluate (view c w) a.tree) → (a : Accepted s) → demand_value 24 23 v w ≡ guarded c a.tree m
+  guard_does h a = sym (guarded-demands c m is _ _ (h a))
 
-  pub return-flow : {x : Simple} {e : Expr} {v : Value} → f ≡ flow_of (answer_value v w) → v ≡ evaluate (view c w) e
-      → x ≡ return e → f ≡ flow_of (perform c x m)
-  return-flow {e = e} {v} is h tree = rw (tree, perform-return c limit m charged e v h) is
+  module _ {s : List ℕ} {n k : ℕ} (long : n ≡ size s) (was : k ≡ kind s) where
+    pub set_does : {q : ℕ} {v : Value} → k ≡ 16 → q ≡ first s → ((e : Accepted (part 6 n s)) → v ≡ evaluate (view c w) e.tree)
+        → (a : GoodSimple s) → assign_value q v w ≡ perform c a.tree m
+    set_does i e h a = let p = laws.set-tree (long_is s long) a (kind_is s was i) in rw (p.is, perform-set c m is _ _ _ (h p.child), e)
 
--- a statement of no kind with statements in it is of one step
-pub one-step : {n : ℕ} {s : List ℕ} → n ≡ size_of s → (a : Good s) → (kind_of s ≡ 32 → ⊥) → (kind_of s ≡ 33 → ⊥) → (kind_of s ≡ 34 → ⊥)
-    → (kind_of s ≡ 35 → ⊥) → (kind_of s ≡ 36 → ⊥) → OneStep s a.at a.tree
-one-step {n} {s} long a b d e f g =
-    by 16 (laws.set-one long a) λ i. by 17 (laws.transfer-one long a) λ j. by 18 (laws.require-one long a) λ k. by 19 (laws.return-one long a) λ l.
-    absurd (laws.other-tree long a i j k l b d e f g)
-  where
-    by : (k : ℕ) → (kind_of s ≡ k → OneStep s a.at a.tree) → ((kind_of s ≡ k → ⊥) → OneStep s a.at a.tree) → OneStep s a.at a.tree
-    by k is not = go (eqb (kind_of s) k) refl
-      where
-        go : (b : Bool) → eqb (kind_of s) k ≡ b → OneStep s a.at a.tree
-        go true h = is (eqb-true _ _ h)
-        go false h = not (eqb-false _ _ h)
+    pub transfer_does : {q accounts : ℕ} {u v : Value} → k ≡ 17 → q ≡ first s → accounts ≡ c.fields.accounts
+        → ((e : Accepted (part 4 n s)) → u ≡ evaluate (view c w) e.tree) → ((e : Accepted (part (4 + q) n s)) → v ≡ evaluate (view c w) e.tree)
+        → (a : GoodSimple s) → pay_values accounts u v w ≡ perform c a.tree m
+    transfer_does i e f g h a =
+        let p = laws.transfer-tree (long_is s long) a (kind_is s was i) _ e in
+        rw (p.is, perform-transfer c m is _ _ _ _ (g p.account) (h p.amount), f)
+
+    pub require_does : {v : Value} → k ≡ 18 → ((e : Accepted (part 4 n s)) → v ≡ evaluate (view c w) e.tree)
+        → (a : GoodSimple s) → demand_value 25 25 v w ≡ perform c a.tree m
+    require_does i h a = let p = laws.require-tree (long_is s long) a (kind_is s was i) in rw (p.is, perform-require c m is _ _ (h p.child))
+
+    pub return_does : {v : Value} → k ≡ 19 → ((e : Accepted (part 4 n s)) → v ≡ evaluate (view c w) e.tree)
+        → (a : GoodSimple s) → answer_value v w ≡ perform c a.tree m
+    return_does i h a = let p = laws.return-tree (long_is s long) a (kind_is s was i) in rw (p.is, perform-return c m is _ _ (h p.child))
+
+-- the charge was refused: what the exit of its `?` returns
+module _ (c : Setting) (m w : Machine) (e : Stop) {l : ℕ} (limit : l ≡ c.fields.limit) (refused : stopped_by e w ≡ charge l m) where
+  out : charge c.fields.limit m ≡ stopped_by e w
+  out = rw (← limit) (sym refused)
+
+  pub perform_stops : {s : List ℕ} (r : Result (Unit {0}) Stop) → IsErrAnd r (λ y. y ≡ e) → (a : GoodSimple s) → ran r w ≡ perform c a.tree m
+  perform_stops r h a = ran_err e r w h ∙ sym (perform-ends c m e w out a.tree)
+
+  pub guard_stops : {s : List ℕ} (r : Result (Unit {0}) Stop) → IsErrAnd r (λ y. y ≡ e) → (a : Accepted s) → ran r w ≡ guarded c a.tree m
+  guard_stops r h a = ran_err e r w h ∙ sym (guarded-ends c m e w out a.tree)
+
+  pub condition_stops : {s : List ℕ} (r : Result Bool Stop) → IsErrAnd r (λ y. y ≡ e) → (a : Accepted s) → ran r w ≡ condition c a.tree m
+  condition_stops r h a = ran_err e r w h ∙ sym (condition-ends c m e w out a.tree)

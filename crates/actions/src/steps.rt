@@ -1,119 +1,79 @@
 // Statements of one step, conditions and guards: a unit is charged, then their expressions are evaluated.
 // This serves our own crates only: a caller has to see that the bytes were accepted, and that the total fits 32 bits.
-ghost use Rattle.std.specs.Prelude.{◌≡◌, List, ℕ};
+ghost use Rattle.std.specs.Prelude.{◌≡◌};
 ghost use Rattle.rules.specs.Values.{evaluate as value_in};
-ghost use Rattle.rules.specs.Running.{Setting, view, perform as performed, condition, guarded};
+ghost use Rattle.rules.specs.Running.{view, perform as performed, condition, guarded};
 ghost use Rattle.records.specs.Acceptance.{Accepted, GoodSimple};
-ghost use Rattle.machine.specs.Flows.{machine_of, flow_in, tested_in, flow_of, tested_of, Funded};
-ghost use Rattle.actions.specs.Frames.{Framed};
+ghost use Rattle.machine.specs.Runs.{ran, Funded};
 
-use crate::Frame;
+use crate::View;
 use crate::expressions::evaluate;
 use machine::run::{answer_value, assign_value, charge, pay_values, require};
-use machine::{Decided, Numbers, Progress, run};
+use machine::{Stop, run};
 use records::bytes::u16_at;
-use rules::Value;
+use rules::{Machine, Setting, Value};
 
 // The value of an expression on a machine.
-fn value<'a>(
-    s: &[u8],
-    variables: &'a [u32; 16],
-    locals: &'a [u32; 8],
-    n: Numbers,
-    frame: Frame,
-    arguments: &'a [u32; 4],
-) -> Value
+#[tactic(auto, unfolding(rules::specs::Running::view))]
+fn value(s: &[u8], m: &Machine, setting: &Setting) -> Value
     requires { Accepted s.now }
-    ensures { (a : Accepted s.now) (c : Setting) → Framed c frame arguments.now → (bs : List ℕ) →
-        result ≡ value_in (view c (machine_of variables.now locals.now bs n)) a.tree }
+    ensures { (a : Accepted s.now) → result ≡ value_in (view setting.now m.now) a.tree }
 {
-    let context = [frame.sender, frame.coins, n.own, frame.before];
-    evaluate(s, variables, locals, arguments, &context)
+    let call = &setting.call;
+    let context = [u32::from(call.sender), call.coins, m.own, setting.before];
+    let view = View {
+        variables: &m.variables,
+        locals: &m.locals,
+        arguments: &call.arguments,
+        context,
+    };
+    evaluate(s, &view)
 }
 
 // The condition of an if, a while or a for.
-pub fn test<'a>(
-    s: &[u8],
-    variables: &'a [u32; 16],
-    locals: &'a [u32; 8],
-    n: Numbers,
-    frame: Frame,
-    arguments: &'a [u32; 4],
-) -> Decided
+pub fn test(s: &[u8], m: &mut Machine, setting: &Setting) -> Result<bool, Stop>
     requires { Accepted s.now }
-    ensures { (bs : List ℕ) (a : Accepted s.now) (c : Setting) → Framed c frame arguments.now →
-        tested_in variables.now locals.now bs result
-        ≡ tested_of (condition c a.tree (machine_of variables.now locals.now bs n)) }
+    ensures { (a : Accepted s.now) → ran result m.new ≡ condition setting.now a.tree m.old }
 {
-    let p = charge(n, frame.limit);
-    let m = p.numbers;
-    if 0 < p.code {
-        return Decided {
-            code: p.code,
-            holds: false,
-            numbers: m,
-        };
-    }
-    run::test(m, value(s, variables, locals, m, frame, arguments))
+    charge(m, u32::from(setting.fields.limit))?;
+    run::test(value(s, m, setting))
 }
 
 // A transition's guard.
-pub fn guard<'a>(
-    s: &[u8],
-    variables: &'a [u32; 16],
-    locals: &'a [u32; 8],
-    n: Numbers,
-    frame: Frame,
-    arguments: &'a [u32; 4],
-) -> Progress
+pub fn guard(s: &[u8], m: &mut Machine, setting: &Setting) -> Result<(), Stop>
     requires { Accepted s.now }
-    ensures { (bs : List ℕ) (a : Accepted s.now) (c : Setting) → Framed c frame arguments.now →
-        flow_in variables.now locals.now bs result
-        ≡ flow_of (guarded c a.tree (machine_of variables.now locals.now bs n)) }
+    ensures { (a : Accepted s.now) → ran result m.new ≡ guarded setting.now a.tree m.old }
 {
-    let p = charge(n, frame.limit);
-    if 0 < p.code {
-        return p;
-    }
-    let m = p.numbers;
-    run::guard(m, value(s, variables, locals, m, frame, arguments))
+    charge(m, u32::from(setting.fields.limit))?;
+    run::guard(value(s, m, setting))
 }
 
-// A set, transfer, require or return: inside a tree, and at a file offset.
-pub fn perform(
-    s: &[u8],
-    variables: &mut [u32; 16],
-    locals: &mut [u32; 8],
-    balances: &mut [u32; 8],
-    n: Numbers,
-    frame: Frame,
-    arguments: &[u32; 4],
-) -> Progress
-    requires { GoodSimple s.now × Funded frame.accounts (machine_of variables.old locals.old balances.old n) }
-    ensures { (a : GoodSimple s.now) (c : Setting) → Framed c frame arguments.now →
-        flow_in variables.new locals.new balances.new result
-        ≡ flow_of (performed c a.tree (machine_of variables.old locals.old balances.old n)) }
+// A set, transfer, require or return, whose record is s.
+#[tactic(auto, using(crate::proofs::Simples::simples))]
+pub fn perform(s: &[u8], m: &mut Machine, setting: &Setting) -> Result<(), Stop>
+    requires { GoodSimple s.now × Funded setting.now.fields.accounts m.old }
+    ensures { (a : GoodSimple s.now) → ran result m.new ≡ performed setting.now a.tree m.old }
 {
-    let p = charge(n, frame.limit);
-    if 0 < p.code {
-        return p;
-    }
-    let m = p.numbers;
+    charge(m, u32::from(setting.fields.limit))?;
     let end = u16_at(s, 0);
+    // The kinds stay the file's numbers: the rules name them so.
     match u16_at(s, 2) {
         16 => {
-            let v = value(&s[6..end], variables, locals, m, frame, arguments);
-            assign_value(variables, locals, m, u16_at(s, 4), v)
+            let v = value(&s[6..end], m, setting);
+            assign_value(m, u16_at(s, 4), v)
         }
         17 => {
             let k = 4 + u16_at(s, 4);
-            let account = value(&s[4..end], variables, locals, m, frame, arguments);
-            let amount = value(&s[k..end], variables, locals, m, frame, arguments);
-            pay_values(balances, m, frame.accounts, account, amount)
+            let account = value(&s[4..end], m, setting);
+            let amount = value(&s[k..end], m, setting);
+            pay_values(m, usize::from(setting.fields.accounts), account, amount)
         }
-        18 => require(m, value(&s[4..end], variables, locals, m, frame, arguments)),
-        19 => answer_value(m, value(&s[4..end], variables, locals, m, frame, arguments)),
+        18 => require(value(&s[4..end], m, setting)),
+        19 => {
+            let v = value(&s[4..end], m, setting);
+            answer_value(m, v)
+        }
         // No other kind is accepted.
-        _ => p,
+        _ => Ok(()),
     }
 }

@@ -1,6 +1,6 @@
 -- What every run keeps: the sum of all balances and the own balance, and the arrays' lengths. Units never fall, and never pass a limit
 -- that they had not passed.
-use Rattle.std.specs.Prelude.{if◌then◌else◌}
+use Rattle.std.specs.Prelude.{if◌then◌else◌, Some, None, Result, Ok, Err}
 use mathlib.Core.Path.{◌≡◌, refl, ◌∙◌}
 use mathlib.Core.Bool.{Bool, true, false, ◌&&◌}
 use Prim.Native.Nat.{ℕ, zero, suc, ◌+◌, ◌-◌, ◌≤◌}
@@ -9,14 +9,16 @@ use lib.ListN.{length, get_or, length-set}
 use lib.Dec.{ltb, leb}
 use borrow.Author.Tests.{ltb-true, leb-true}
 use Rattle.rules.specs.declared.Machine.{Machine}
-use Rattle.rules.specs.declared.Value.{Value}
-use Rattle.rules.specs.declared.Value.TheVariants.{Is, Failed}
+use Rattle.rules.specs.Values.{Value}
 use Rattle.rules.specs.Syntax.{Expr, Simple, set, transfer, require, return}
 use Rattle.rules.specs.Syntax.{Stmt, simple, block, if_then, if_else, while, for, Stmts, last, ◌then◌}
 use Rattle.rules.specs.Values.{evaluate, is_true}
-use Rattle.rules.specs.Running.{Setting, Run, going, returned, stopped, Exec, Action, after, skip, stop, or_stop, view, value}
+use Rattle.rules.specs.declared.Setting.{Setting}
+use Rattle.rules.specs.Running.{Run, going, returned, stopped, Exec, Action, after, skip, stop, or_stop, view, value}
 use Rattle.rules.specs.Running.{charge, assign, pay, return_with, perform, condition, loop, repeat, statement, statements, guarded}
-use Rattle.machine.specs.Flows.{Flow, Tested, flow_of, tested_of, funds, Solvent, Funded}
+use Rattle.machine.specs.declared.Stop.{Stop}
+use Rattle.machine.specs.declared.Stop.TheVariants.{Returned, GuardFalse, GuardFailed, ActionFailed, UnitsUsedUp}
+use Rattle.machine.specs.Runs.{stopped_by, ran, funds, Solvent, Funded}
 use Rattle.machine.proofs.Sums.{sum-set}
 
 -- from m to w, at a limit
@@ -33,18 +35,22 @@ Keeps l m (going a w) = Kept l m w
 Keeps l m (returned w) = Kept l m w
 Keeps l m (stopped n w) = Kept l m w
 
--- as a flow or a condition has it
-pub flow-keeps : {l : ℕ} {m : Machine} (r : Run (Unit {0})) (f : Flow) → f ≡ flow_of r → Keeps l m r → Kept l m f.machine
-unfolding Keeps flow_of
-flow-keeps (going a w) f e h = rw e h
-flow-keeps (returned w) f e h = rw e h
-flow-keeps (stopped n w) f e h = rw e h
+-- as the code has it
+stop_keeps : (A : Type 0) {l : ℕ} {m w : Machine} (e : Stop) → Keeps {A = A} l m (stopped_by e w) → Kept l m w
+unfolding Keeps
+stop_keeps A Returned h = h
+stop_keeps A GuardFalse h = h
+stop_keeps A GuardFailed h = h
+stop_keeps A ActionFailed h = h
+stop_keeps A UnitsUsedUp h = h
 
-pub test-keeps : {l : ℕ} {m : Machine} (r : Run Bool) (f : Tested) → f ≡ tested_of r → Keeps l m r → Kept l m f.machine
-unfolding Keeps tested_of
-test-keeps (going a w) f e h = rw e h
-test-keeps (returned w) f e h = rw e h
-test-keeps (stopped n w) f e h = rw e h
+result-keeps : {A : Type 0} {l : ℕ} {m w : Machine} (r : Result A Stop) → Keeps l m (ran r w) → Kept l m w
+unfolding Keeps
+result-keeps (Ok a) h = h
+result-keeps {A} (Err e) h = stop_keeps A e h
+
+pub ran-keeps : {A : Type 0} {l : ℕ} {m w : Machine} (r : Result A Stop) (x : Run A) → ran r w ≡ x → Keeps l m x → Kept l m w
+ran-keeps r x is k = result-keeps r (rw is k)
 
 pub still-solvent : {l : ℕ} {m w : Machine} → Kept l m w → Solvent m → Solvent w
 still-solvent k h = omega (arith, k.total)
@@ -143,8 +149,8 @@ answer_keeps l x m = record { total = refl; variables = refl; locals = refl; bal
 
 pub stop-keeps : (l n : ℕ) (v : Value) (m : Machine) → Keeps l m (or_stop n v m)
 unfolding Keeps or_stop
-stop-keeps l n (Is x) m = kept_same l m
-stop-keeps l n Failed m = kept_same l m
+stop-keeps l n (Some x) m = kept_same l m
+stop-keeps l n None m = kept_same l m
 
 if-keeps : (l : ℕ) (b : Bool) (n : ℕ) (m : Machine) → Keeps {A = Unit {0}} l m ((if b then skip else stop n) m)
 unfolding Keeps

@@ -1,7 +1,6 @@
 -- Laws: those that the proofs of functions share, and those for callers.
 pub mod Sums
-pub mod Codes
-pub mod Flows
+pub mod Runs
 pub mod Performing
 pub mod Keeping
 pub mod States

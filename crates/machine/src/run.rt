@@ -1,174 +1,112 @@
 // What statements do to a machine. For our own crates only: their callers meet what is required here by what reading has accepted.
-// Where an operation does not touch an array, its contract holds for any.
-ghost use Rattle.std.specs.Prelude.{◌≡◌, List, [], ℕ, ◌≤◌};
-ghost use Rattle.rules.specs.Running.{going as going_with, skip, stop, charge as charged, assign as assigned, pay as paid};
-ghost use Rattle.machine.specs.Flows.{machine_of, flow_in, tested_in, flow_of, tested_of, Target, Solvent};
-ghost use Rattle.machine.specs.Flows.{assign_value, pay_values, answer_value, demand_value, test_value};
+ghost use Rattle.std.specs.Prelude.{◌≡◌, ◌≤◌};
+ghost use Rattle.rules.specs.declared.Machine.{Machine};
+ghost use Rattle.rules.specs.Running.{going, charge as charged, assign as assigned, pay as paid};
+ghost use Rattle.machine.specs.Runs.{ran, Target, Solvent, assign_value, pay_values, answer_value, demand_value, test_value};
 
+use crate::Stop;
 use crate::values::is_true;
-use crate::{Decided, Numbers, Progress};
-use rules::{Returned, Value};
+use rules::{Machine, Value};
 
-fn going(n: Numbers) -> Progress
-    ensures { (vs ls bs : List ℕ) → flow_in vs ls bs result ≡ flow_of (skip (machine_of vs ls bs n)) }
+#[tactic(auto, unfolding(rules::specs::Running::charge))]
+pub fn charge(m: &mut Machine, limit: u32) -> Result<(), Stop>
+    ensures { ran result m.new ≡ charged limit m.old }
 {
-    Progress {
-        code: 0,
-        numbers: n,
+    if limit <= m.units {
+        return Err(Stop::UnitsUsedUp);
     }
+    m.units += 1;
+    Ok(())
 }
 
-fn stopped(n: Numbers, number: u8) -> Progress
-    requires { number ≤ 27 }
-    ensures { (vs ls bs : List ℕ) → flow_in vs ls bs result ≡ flow_of (stop number (machine_of vs ls bs n)) }
-{
-    Progress {
-        code: 2 + number,
-        numbers: n,
-    }
-}
-
-pub fn charge(n: Numbers, limit: u32) -> Progress
-    ensures { (vs ls bs : List ℕ) → flow_in vs ls bs result ≡ flow_of (charged limit (machine_of vs ls bs n)) }
-{
-    if n.units < limit {
-        let mut m = n;
-        m.units = n.units + 1;
-        going(m)
-    } else {
-        stopped(n, 26)
-    }
-}
-
-fn assign(variables: &mut [u32; 16], locals: &mut [u32; 8], target: usize, x: u32)
+#[tactic(auto, unfolding(rules::specs::Running::assign))]
+fn assign(m: &mut Machine, target: usize, x: u32)
     requires { Target target }
-    ensures { (bs : List ℕ) (n : Numbers) → going_with tt (machine_of variables.new locals.new bs n)
-        ≡ assigned target x (machine_of variables.old locals.old bs n) }
+    ensures { going tt m.new ≡ assigned target x m.old }
 {
     if target < 256 {
-        variables[target] = x;
+        m.variables[target] = x;
     } else {
-        let i = target - 256;
-        locals[i] = x;
+        m.locals[target - 256] = x;
     }
 }
 
-fn pay(balances: &mut [u32; 8], n: Numbers, accounts: usize, account: u32, amount: u32) -> Progress
-    requires { (accounts ≤ 8) × Solvent (machine_of [] [] balances.old n) }
-    ensures { (vs ls : List ℕ) → flow_in vs ls balances.new result
-        ≡ flow_of (paid accounts account amount (machine_of vs ls balances.old n)) }
+#[tactic(auto, using(crate::proofs::Sums::entry_most), unfolding(rules::specs::Running::pay, crate::specs::Runs::funds, rules::specs::Basics::most32))]
+fn pay(m: &mut Machine, accounts: usize, account: u32, amount: u32) -> Result<(), Stop>
+    requires { (accounts ≤ 8) × Solvent m.old }
+    ensures { ran result m.new ≡ paid accounts account amount m.old }
 {
     let k = account as usize;
-    if accounts <= k {
-        return stopped(n, 25);
+    if accounts <= k || m.own < amount {
+        return Err(Stop::ActionFailed);
     }
-    if n.own < amount {
-        return stopped(n, 25);
-    }
-    balances[k] = balances[k] + amount;
-    let mut m = n;
-    m.own = n.own - amount;
-    going(m)
+    m.balances[k] += amount;
+    m.own -= amount;
+    Ok(())
 }
 
 // What a set, a transfer and a return do with the values of their expressions; one that failed is refused.
-pub fn assign_value(
-    variables: &mut [u32; 16],
-    locals: &mut [u32; 8],
-    n: Numbers,
-    target: usize,
-    v: Value,
-) -> Progress
+#[tactic(auto, unfolding(crate::specs::Runs::assign_value, rules::specs::Running::or_stop))]
+pub fn assign_value(m: &mut Machine, target: usize, v: Value) -> Result<(), Stop>
     requires { Target target }
-    ensures { (bs : List ℕ) → flow_in variables.new locals.new bs result
-        ≡ flow_of (assign_value target v (machine_of variables.old locals.old bs n)) }
+    ensures { ran result m.new ≡ assign_value target v m.old }
 {
-    match v {
-        Value::Is(x) => {
-            assign(variables, locals, target, x);
-            going(n)
-        }
-        Value::Failed => stopped(n, 25),
-    }
+    assign(m, target, v.ok_or(Stop::ActionFailed)?);
+    Ok(())
 }
 
+#[tactic(auto, unfolding(crate::specs::Runs::pay_values, rules::specs::Running::or_stop))]
 pub fn pay_values(
-    balances: &mut [u32; 8],
-    n: Numbers,
+    m: &mut Machine,
     accounts: usize,
     account: Value,
     amount: Value,
-) -> Progress
-    requires { (accounts ≤ 8) × Solvent (machine_of [] [] balances.old n) }
-    ensures { (vs ls : List ℕ) → flow_in vs ls balances.new result
-        ≡ flow_of (pay_values accounts account amount (machine_of vs ls balances.old n)) }
+) -> Result<(), Stop>
+    requires { (accounts ≤ 8) × Solvent m.old }
+    ensures { ran result m.new ≡ pay_values accounts account amount m.old }
 {
-    let Value::Is(k) = account else {
-        return stopped(n, 25);
-    };
-    let Value::Is(x) = amount else {
-        return stopped(n, 25);
-    };
-    pay(balances, n, accounts, k, x)
+    let k = account.ok_or(Stop::ActionFailed)?;
+    let x = amount.ok_or(Stop::ActionFailed)?;
+    pay(m, accounts, k, x)
 }
 
-pub fn answer_value(n: Numbers, v: Value) -> Progress
-    ensures { (vs ls bs : List ℕ) → flow_in vs ls bs result ≡ flow_of (answer_value v (machine_of vs ls bs n)) }
+#[tactic(auto, unfolding(crate::specs::Runs::answer_value, rules::specs::Running::or_stop, rules::specs::Running::return_with))]
+pub fn answer_value(m: &mut Machine, v: Value) -> Result<(), Stop>
+    ensures { ran result m.new ≡ answer_value v m.old }
 {
-    match v {
-        Value::Is(x) => Progress {
-            code: 1,
-            numbers: Numbers {
-                own: n.own,
-                units: n.units,
-                returned: Returned::Given(x),
-            },
-        },
-        Value::Failed => stopped(n, 25),
+    let x = v.ok_or(Stop::ActionFailed)?;
+    m.returned = Some(x);
+    Err(Stop::Returned)
+}
+
+// A value that has to be true, of a require and of a guard. Two functions and not one with two stops: the stops are all that either
+// says.
+#[tactic(auto, unfolding(crate::specs::Runs::demand_value, rules::specs::Running::or_stop))]
+pub fn require(v: Value) -> Result<(), Stop>
+    ensures { (m : Machine) → ran result m ≡ demand_value 25 25 v m }
+{
+    if is_true(v.ok_or(Stop::ActionFailed)?) {
+        Ok(())
+    } else {
+        Err(Stop::ActionFailed)
     }
 }
 
-// A value that has to be true: refused with one number where it failed, and with another where it is false.
-fn demand(n: Numbers, failed: u8, untrue: u8, v: Value) -> Progress
-    requires { (failed ≤ 27) × (untrue ≤ 27) }
-    ensures { (vs ls bs : List ℕ) → flow_in vs ls bs result ≡ flow_of (demand_value failed untrue v (machine_of vs ls bs n)) }
+#[tactic(auto, unfolding(crate::specs::Runs::demand_value, rules::specs::Running::or_stop))]
+pub fn guard(v: Value) -> Result<(), Stop>
+    ensures { (m : Machine) → ran result m ≡ demand_value 24 23 v m }
 {
-    match v {
-        Value::Is(x) => if is_true(x) {
-            going(n)
-        } else {
-            stopped(n, untrue)
-        },
-        Value::Failed => stopped(n, failed),
+    if is_true(v.ok_or(Stop::GuardFailed)?) {
+        Ok(())
+    } else {
+        Err(Stop::GuardFalse)
     }
-}
-
-pub fn require(n: Numbers, v: Value) -> Progress
-    ensures { (vs ls bs : List ℕ) → flow_in vs ls bs result ≡ flow_of (demand_value 25 25 v (machine_of vs ls bs n)) }
-{
-    demand(n, 25, 25, v)
-}
-
-pub fn guard(n: Numbers, v: Value) -> Progress
-    ensures { (vs ls bs : List ℕ) → flow_in vs ls bs result ≡ flow_of (demand_value 24 23 v (machine_of vs ls bs n)) }
-{
-    demand(n, 24, 23, v)
 }
 
 // What an if, a while and a for make of the value of their condition.
-pub fn test(n: Numbers, v: Value) -> Decided
-    ensures { (vs ls bs : List ℕ) → tested_in vs ls bs result ≡ tested_of (test_value v (machine_of vs ls bs n)) }
+#[tactic(auto, unfolding(crate::specs::Runs::test_value, rules::specs::Running::or_stop))]
+pub fn test(v: Value) -> Result<bool, Stop>
+    ensures { (m : Machine) → ran result m ≡ test_value v m }
 {
-    match v {
-        Value::Is(x) => Decided {
-            code: 0,
-            holds: is_true(x),
-            numbers: n,
-        },
-        Value::Failed => Decided {
-            code: 27,
-            holds: false,
-            numbers: n,
-        },
-    }
+    Ok(is_true(v.ok_or(Stop::ActionFailed)?))
 }

@@ -1,15 +1,10 @@
--- `test` meets its contract: the charge is refused, or it goes through and the condition has a value.
-use native.Mathlib.Omega.{arith}
-use Rattle.machine.proofs.Codes.{going-code, ended-code}
-use Rattle.machine.proofs.Flows.{flow-goes}
-use Rattle.machine.proofs.Performing.{condition-tests, condition-ends}
+-- The charge is refused, or it goes through and the condition has a value.
+use Rattle.std.proofs.Common.{◌∙◌}
+use Rattle.actions.proofs.OneStep.{condition_does, condition_stops}
 use Rattle.actions.proofs.steps.test.Goals as goal
 
-pub returns-then-p-gt0 : goal.returns-then-p-gt0
-returns-then-p-gt0 c = λ bs a s h. condition-ends s h.limit _ (c.charge-p.ensures _ _ bs) (ended-code _ c.if-p-gt0.true) a.tree
+pub returns-in_err-charge : goal.returns-in_err-charge
+returns-in_err-charge c = condition_stops _ _ _ _ c.from.ensures c.in_err-charge.ensures _ c.from_residual.ensures.1
 
 pub returns : goal.returns
-returns c = λ bs a s h.
-    let e = c.charge-p in
-    let g = flow-goes _ _ (e.ensures _ _ bs) (going-code e.result.code (omega (arith, c.if-p-gt0.false))) in
-    rw (condition-tests s h.limit _ g _ _ (c.value.ensures a s h bs)) (c.test.ensures _ _ bs)
+returns c = λ a. c.test.ensures _ ∙ condition_does _ _ c.from.ensures c.in_ok-charge.ensures c.value.ensures a

@@ -1,26 +1,14 @@
--- What is left of the entries has a nonzero one exactly if the whole has.
-use Rattle.machine.proofs.Sums.{any_here, any-later, any_none}
-use mathlib.Core.Path.{refl, sym, ◌∙◌}
-use native.Mathlib.Omega.{arith}
+-- The items are the entries from there on.
+use Rattle.std.proofs.Common.{rules, tests, ◌≡◌, ◌<◌, drop}
+use Rattle.std.proofs.lemmas.Iterator.{YieldsList-from_slice, cases_from_any}
+use Rattle.std.proofs.lemmas.Iterator.Adapters.{YieldsList-from_skip}
+use Rattle.std.proofs.lemmas.Iterator.Consumers.{YieldsList-at}
+use Rattle.machine.proofs.Sums.{any-from_cases}
 use Rattle.machine.proofs.state.nonzero_from.Goals as goal
-
-pub loop-i-init : goal.loop-i-init
-loop-i-init c = refl
-
-pub returns-then-a-i-gt0 : goal.returns-then-a-i-gt0
-returns-then-a-i-gt0 c =
-    let s = c in
-    let i = c.loop-i in
-    sym (sym i.invariant ∙ any_here s.args.a.now i.i (omega arith) c.if-a-i-gt0.true)
-
-pub loop-i-preserved : goal.loop-i-preserved
-loop-i-preserved c =
-    let s = c in
-    let i = c.loop-i in
-    sym (any-later s.args.a.now i.i (omega arith) c.if-a-i-gt0.false) ∙ i.invariant
 
 pub returns : goal.returns
 returns c =
-    let s = c in
-    let i = c.loop-i in
-    sym (sym i.invariant ∙ any_none s.args.a.now i.i (omega arith))
+    any-from_cases _ (drop c.args.from c.args.a.now)
+    (cases_from_any _ _ _ (λ x. 0 < x) (λ x. x ≡ 0) c.any.ensures.ran
+    (YieldsList-from_skip c.args.from (YieldsList-at c.skip.ensures.source (YieldsList-from_slice c.args.a.now cc)) c.skip.ensures.count)
+    (λ x q k. search (rules, tests)) (λ x q k. search (rules, tests)))

@@ -1,24 +1,18 @@
--- What was added and the sum of what is left make the whole sum.
-use Rattle.machine.proofs.Sums.{sum-from, sum-none}
-use borrow.Kind.Array.{e_int, good_length}
-use mir.Syntax.{w32}
-use native.Mathlib.Omega.{arith}
+-- The items are the entries, each below 2 ^ 32.
+use Rattle.std.proofs.Common.{rules, tests, arith}
+use Rattle.std.proofs.lemmas.Iterator.{YieldsList-from_slice, YieldsList-from_map}
+use Rattle.std.proofs.lemmas.Iterator.Consumers.{YieldsList-at, sum_by_from_yields_List, fits_by_from_yields_list}
+use Rattle.machine.proofs.Sums.{sum_by-same, sum-bound}
 use Rattle.machine.proofs.state.sum.Goals as goal
 
-pub loop-i-init : goal.loop-i-init
-loop-i-init c = omega arith
-
-pub overflow_add-n : goal.overflow_add-n
-overflow_add-n c = omega arith
-
-pub loop-i-preserved : goal.loop-i-preserved
-loop-i-preserved c =
-    let s = c in
-    let l = good_length (e_int w32) 8 s.args.a _ s.well_formed.0 in
-    omega (arith, sum-from s.args.a c.loop-i.i (omega arith))
+pub sum-requires-clause-fits : goal.sum-requires-clause-fits
+sum-requires-clause-fits c =
+    fits_by_from_yields_list (λ x. x) c.args.a.now c.map.result _
+    (YieldsList-from_map _ (λ x. x) (YieldsList-at c.map.ensures.source (YieldsList-from_slice c.args.a.now cc)) c.map.ensures.closure (λ x r q k. search (rules, tests)))
+    (omega (arith, sum_by-same c.args.a.now, sum-bound c.args.a.now 4_294_967_295 (λ i. omega (arith, c.fits-a i))))
 
 pub returns : goal.returns
 returns c =
-    let s = c in
-    let l = good_length (e_int w32) 8 s.args.a _ s.well_formed.0 in
-    omega (arith, sum-none s.args.a c.loop-i.i (omega arith))
+    let e = sum_by_from_yields_List (λ x. x) c.args.a.now c.map.result _ c.sum.ensures.ran
+    (YieldsList-from_map _ (λ x. x) (YieldsList-at c.map.ensures.source (YieldsList-from_slice c.args.a.now cc)) c.map.ensures.closure (λ x r q k. search (rules, tests))) in
+    omega (arith, e, sum_by-same c.args.a.now, sum-bound c.args.a.now 4_294_967_295 (λ i. omega (arith, c.fits-a i)))
