@@ -1,7 +1,7 @@
 -- A walk through a block's statements.
 -- Assumes nothing.
 use Prim.Native.Nat.{ℕ, ◌+◌, ◌≤◌, ◌<◌}
-use mathlib.Core.Path.{◌≡◌, refl, sym, ap, ap₂, ◌∙◌}
+use mathlib.Core.Path.{◌≡◌, refl, sym, ap, ap₂, subst, ◌∙◌}
 use mathlib.Core.List.{List}
 use native.Mathlib.Omega.{arith}
 use native.Mathlib.Decide.{dec_le}
@@ -18,14 +18,14 @@ use Rattle.records.proofs.GoodBlocks.{moved, Turn, turn}
 use Rattle.expander.specs.declared.Ends.{Ends}
 use Rattle.expander.specs.declared.Next.{Next}
 use Rattle.expander.specs.Writing.{over, Expanded, Fit}
-use Rattle.expander.proofs.Counts.{size_is}
+use Rattle.expander.proofs.Counts.{size_is, joints-last, joints-more}
 use Rattle.expander.proofs.Words.{steps-over}
 
 -- ---- a block's nodes and steps
 
-pub made-block : (ss : Stmts) → made (block ss) ≡ joints ss + made_all ss
+pub made_block : (ss : Stmts) → made (block ss) ≡ joints ss + made_all ss
 unfolding made
-made-block ss = refl
+made_block ss = refl
 
 made-last : (s : Stmt) {ss : Stmts} → ss ≡ last s → made_all ss ≡ made s
 unfolding made_all
@@ -54,36 +54,55 @@ all-length (s then ss) o j d r n =
 
 -- After k bytes of a block: o and j are the nodes before and after the next statement. Expanding the statements that are left gives
 -- what expanding all gives.
-pub record Left (ss : Stmts) (at : ℕ) (e : Ends) (n i : ℕ) (s before : List ℕ) (k o j : ℕ) (next : Next) (words : List ℕ) : Type 0 where
+pub record Left (ss : Stmts) (at : ℕ) (e : Ends) (x : Next) (s before : List ℕ) (k o j : ℕ) (next : Next) (words : List ℕ) : Type 0 where
   pub left : GoodAll (from k s)
   pub left_at : left.at ≡ at + k
-  pub joint : j + joints left.tree ≡ n + joints ss
-  pub nodes : next.node + made_all left.tree ≡ n + made (block ss)
-  pub steps : next.step + step_count (block left.tree) ≡ i + step_count (block ss)
-  pub same : over next.step (table (expand_all left.tree o j e.d e.r next.node)) words ≡ over i (table (expand (block ss) e.o e.d e.r n)) before
+  pub joint : j + joints left.tree ≡ x.node + joints ss
+  pub nodes : next.node + made_all left.tree ≡ x.node + made (block ss)
+  pub steps : next.step + step_count (block left.tree) ≡ x.step + step_count (block ss)
+  pub same : over next.step (table (expand_all left.tree o j e.d e.r next.node)) words ≡ over x.step (table (expand (block ss) e.o e.d e.r x.node)) before
 
 pub starts :
-    {s : List ℕ} (a : GoodAll s) {at : ℕ} {e : Ends} {n i c : ℕ} {ws : List ℕ} → a.at ≡ at → c ≡ joints a.tree →
-    Left a.tree at e n i s ws 0 e.o n (record { node = n + c; step = i }) ws
+    {s : List ℕ} (a : GoodAll s) {at : ℕ} {e : Ends} {x y : Next} {c : ℕ} {ws : List ℕ} → a.at ≡ at → c ≡ joints a.tree →
+    y.node ≡ x.node + c → y.step ≡ x.step →
+    Left a.tree at e x s ws 0 e.o x.node y ws
 unfolding expand
-starts {s} a {e = e} {n = n} {i = i} {ws = ws} h g =
+starts {s} a h g n p =
     record {
       left = moved (sym (from-drop 0 s)) a;
       left_at = omega arith;
       joint = refl;
-      nodes = omega (arith, made-block a.tree);
-      steps = refl;
-      same = rw g;
+      nodes = omega (arith, made_block a.tree);
+      steps = omega arith;
+      same = rw (n, p, g);
     }
 
 -- a turn, where the statement's length was read
 pub next-turn : (k : ℕ) (s : List ℕ) {q : ℕ} → q ≡ number (take 2 (drop 0 (from k s))) → (b : GoodAll (from k s)) → Turn k q s b.at b.tree
 next-turn k s e b = turn k _ s (size_is (from k s) e) b
 
+-- After k bytes of a block so many joints have been counted: one more stands before each statement that is left.
+pub record Counted {s : List ℕ} (a : GoodAll s) (k count : ℕ) : Type 0 where
+  pub more : k < length s → (b : GoodAll (from k s)) × (joints a.tree ≡ count + 1 + joints b.tree)
+  pub done : length s ≤ k → joints a.tree ≡ count
+
+-- the statement after k bytes, which ends after n, is passed
+pub counted-more :
+    {s : List ℕ} (a : GoodAll s) (k n count : ℕ) {q : ℕ} → n ≡ k + q → (b : GoodAll (from k s)) → q ≡ number (take 2 (drop 0 (from k s))) →
+    joints a.tree ≡ count + joints b.tree → (n ≤ length s) × (k + 4 ≤ n) × Counted a n count
+counted-more {s} a k n count {q} z b e h =
+    let t = next-turn k s e b in
+    let passed : Counted a (k + q) count =
+    record {
+      more = λ l. let g = t.goes l in (g.0, omega (arith, joints-more t.first.tree g.0.tree g.2));
+      done = λ l. omega (arith, joints-last t.first.tree (t.ends l));
+    } in
+    (omega (arith, t.fits), omega (arith, t.low), subst (λ (m : ℕ). Counted a m count) (sym z) passed)
+
 -- the next statement, q bytes long
 module _
-    {ss : Stmts} {found at : ℕ} {e : Ends} {n i : ℕ} {s ws : List ℕ} {k o j : ℕ} {next : Next} {vs : List ℕ}
-    (f : Fit (block ss) found at n i s ws) (l : Left ss at e n i s ws k o j next vs)
+    {ss : Stmts} {found at : ℕ} {e : Ends} {x : Next} {s ws : List ℕ} {k o j : ℕ} {next : Next} {vs : List ℕ}
+    (f : Fit (block ss) found at x s ws) (l : Left ss at e x s ws k o j next vs)
     {q : ℕ} (t : Turn k q s l.left.at l.left.tree)
   where
     within : (made t.first.tree ≤ made_all l.left.tree) × (step_count t.first.tree ≤ step_count (block l.left.tree))
@@ -95,7 +114,22 @@ module _
             let g = t.goes (omega arith) in
             (omega (arith, made_more t.first.tree g.0.tree g.2), omega (arith, steps-more t.first.tree g.0.tree g.2))
 
-    pub first-fit : length vs ≡ length ws → Fit t.first.tree t.first.at (at + k) next.node next.step (from k s) vs
+    -- whether others follow, by the joints that are left
+    pub last-ends : joints l.left.tree ≡ 0 → length s ≤ k + q
+    last-ends h = go (dec_le (length s) (k + q))
+      where
+        go : Dec (length s ≤ k + q) → length s ≤ k + q
+        go (yes e) = e
+        go (no e) = let g = t.goes (omega arith) in absurd (omega (arith, joints-more t.first.tree g.0.tree g.2))
+
+    pub more-follow : 1 ≤ joints l.left.tree → k + q < length s
+    more-follow h = go (dec_le (length s) (k + q))
+      where
+        go : Dec (length s ≤ k + q) → k + q < length s
+        go (yes e) = absurd (omega (arith, joints-last t.first.tree (t.ends e)))
+        go (no e) = omega arith
+
+    pub first-fit : length vs ≡ length ws → Fit t.first.tree t.first.at (at + k) next (from k s) vs
     first-fit h =
         record {
           here = t.first_at ∙ l.left_at;
@@ -106,11 +140,12 @@ module _
 
     -- it is the last
     pub ends-block :
-        {us : List ℕ} {x : Next} → length s ≤ k + q →
-        Expanded t.first.tree (record { o = o; d = e.d; r = e.r }) next.node next.step vs us x →
-        Expanded (block ss) e n i ws us x
+        {us : List ℕ} {b : Ends} {r : Next} → length s ≤ k + q → b ≡ record { o = o; d = e.d; r = e.r } →
+        Expanded t.first.tree b next vs us r →
+        Expanded (block ss) e x ws us r
     unfolding expand_all
-    ends-block h w =
+    ends-block h g v =
+        let w = rw g at v in
         let p = t.ends h in
         record {
           words = w.words ∙ ap (λ z. over next.step (table (expand_all z o j e.d e.r next.node)) vs) (sym p) ∙ l.same;
@@ -119,16 +154,13 @@ module _
         }
 
     -- others follow
-    pub joint-fits : k + q < length s → j + 1 ≤ n + made (block ss)
-    unfolding joints
-    joint-fits h = let g = t.goes h in omega (arith, l.joint, ap joints g.2, made-block ss)
-
     pub goes_on :
-        {us : List ℕ} {x : Next} → length vs ≡ length ws → k + q < length s →
-        Expanded t.first.tree (record { o = o; d = j; r = e.r }) next.node next.step vs us x →
-        Left ss at e n i s ws (k + q) j (j + 1) x us
+        {us : List ℕ} {m : Ends} {r : Next} → length vs ≡ length ws → k + q < length s → m ≡ record { o = o; d = j; r = e.r } →
+        Expanded t.first.tree m next vs us r →
+        Left ss at e x s ws (k + q) j (j + 1) r us
     unfolding expand_all joints
-    goes_on {us} {x} same h w =
+    goes_on {us} {r = r} same h is v =
+        let w = rw is at v in
         let g = t.goes h in
         let first = t.first.tree in
         let rest = g.0.tree in
@@ -137,7 +169,7 @@ module _
         let y : length a ≡ step_count first = expand-length first o j e.r next.node in
         let z : length b ≡ step_count (block rest) = all-length rest j (j + 1) e.d e.r (next.node + made first) in
         let c = steps-more first rest g.2 in
-        let st : x.step ≡ next.step + length a = w.step ∙ ap (λ m. next.step + m) (sym y) in
+        let st : r.step ≡ next.step + length a = w.step ∙ ap (λ m. next.step + m) (sym y) in
         record {
           left = g.0;
           left_at = omega (arith, g.1, l.left_at);

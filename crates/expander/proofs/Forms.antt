@@ -22,41 +22,41 @@ use Rattle.expander.proofs.Fits.{else-steps, for-steps}
 -- ---- statements of one step
 
 one-expanded :
-    {tree : Stmt} {found at k target : ℕ} {x : Simple} {e : Ends} {n i : ℕ} {ws vs : List ℕ} {r : Next} →
+    {tree : Stmt} {found at k target : ℕ} {x : Simple} {e : Ends} {y r : Next} {ws vs : List ℕ} →
     tree ≡ simple found x → found ≡ at → step_kind x ≡ k → target_of x e.d e.r ≡ target →
-    Wrote (step e.o target k 0 at ∷ []) 0 n i ws vs r → Expanded tree e n i ws vs r
+    Wrote (step e.o target k 0 at ∷ []) 0 y ws vs r → Expanded tree e y ws vs r
 unfolding expand made step_of
-one-expanded {e = e} {n = n} {i = i} {ws = ws} {vs = vs} {r = r} p q h g w =
+one-expanded p q h g w =
     rw (p, q) (as-statement (rw (h, g) w))
 
-module _ {s : List ℕ} {m : ℕ} (long : m ≡ size_of s) (a : Good s) {at n i : ℕ} {e : Ends} {ws vs : List ℕ} {r : Next} (here : a.at ≡ at) where
-  pub set-expanded : kind_of s ≡ 16 → Wrote (step e.o e.d 4 0 at ∷ []) 0 n i ws vs r → Expanded a.tree e n i ws vs r
+module _ {s : List ℕ} {m : ℕ} (long : m ≡ size_of s) (a : Good s) {at : ℕ} {e : Ends} {y r : Next} {ws vs : List ℕ} (here : a.at ≡ at) where
+  pub set-expanded : kind_of s ≡ 16 → Wrote (step e.o e.d 4 0 at ∷ []) 0 y ws vs r → Expanded a.tree e y ws vs r
   unfolding step_kind target_of
   set-expanded k =
       let x = set-one long a k in
-      let y = set-tree long x.step k in
-      one-expanded x.is here (ap step_kind y.is) (ap (λ z. target_of z e.d e.r) y.is)
+      let t = set-tree long x.step k in
+      one-expanded x.is here (ap step_kind t.is) (ap (λ z. target_of z e.d e.r) t.is)
 
-  pub transfer-expanded : kind_of s ≡ 17 → Wrote (step e.o e.d 5 0 at ∷ []) 0 n i ws vs r → Expanded a.tree e n i ws vs r
+  pub transfer-expanded : kind_of s ≡ 17 → Wrote (step e.o e.d 5 0 at ∷ []) 0 y ws vs r → Expanded a.tree e y ws vs r
   unfolding step_kind target_of
   transfer-expanded k =
       let x = transfer-one long a k in
-      let y = transfer-tree long x.step k _ refl in
-      one-expanded x.is here (ap step_kind y.is) (ap (λ z. target_of z e.d e.r) y.is)
+      let t = transfer-tree long x.step k _ refl in
+      one-expanded x.is here (ap step_kind t.is) (ap (λ z. target_of z e.d e.r) t.is)
 
-  pub require-expanded : kind_of s ≡ 18 → Wrote (step e.o e.d 6 0 at ∷ []) 0 n i ws vs r → Expanded a.tree e n i ws vs r
+  pub require-expanded : kind_of s ≡ 18 → Wrote (step e.o e.d 6 0 at ∷ []) 0 y ws vs r → Expanded a.tree e y ws vs r
   unfolding step_kind target_of
   require-expanded k =
       let x = require-one long a k in
-      let y = require-tree long x.step k in
-      one-expanded x.is here (ap step_kind y.is) (ap (λ z. target_of z e.d e.r) y.is)
+      let t = require-tree long x.step k in
+      one-expanded x.is here (ap step_kind t.is) (ap (λ z. target_of z e.d e.r) t.is)
 
-  pub return-expanded : kind_of s ≡ 19 → Wrote (step e.o e.r 7 0 at ∷ []) 0 n i ws vs r → Expanded a.tree e n i ws vs r
+  pub return-expanded : kind_of s ≡ 19 → Wrote (step e.o e.r 7 0 at ∷ []) 0 y ws vs r → Expanded a.tree e y ws vs r
   unfolding step_kind target_of
   return-expanded k =
       let x = return-one long a k in
-      let y = return-tree long x.step k in
-      one-expanded x.is here (ap step_kind y.is) (ap (λ z. target_of z e.d e.r) y.is)
+      let t = return-tree long x.step k in
+      one-expanded x.is here (ap step_kind t.is) (ap (λ z. target_of z e.d e.r) t.is)
 
 -- a loop's set
 pub loop-set-step : {s : List ℕ} (a : GoodSet s) (at o d r : ℕ) → step o d 4 0 at ≡ step_of at a.tree o d r
@@ -69,59 +69,64 @@ loop-set-step {s} a at o d r =
 -- ---- conditions
 
 pub part-wrote :
-    {t : Stmt} {test back n i : ℕ} {e : Ends} {ws vs us : List ℕ} {x y : Next} →
-    5 * (i + 2 + step_count t) ≤ length ws →
-    Wrote (step e.o n 2 0 test ∷ step e.o e.d 3 0 test ∷ []) 0 (n + 1) i ws vs x →
-    Expanded t (record { o = n; d = back; r = e.r }) x.node x.step vs us y →
-    Wrote (guarded test t e back n) (1 + made t) n i ws us y
-part-wrote {n = n} h w v = rebased (omega arith) (then-expanded (n + 1) (omega arith) h w v)
+    {t : Stmt} {test back : ℕ} {e b : Ends} {x v y z : Next} {ws vs us : List ℕ} →
+    v.node ≡ x.node + 1 → v.step ≡ x.step → b ≡ record { o = x.node; d = back; r = e.r } →
+    5 * (x.step + 2 + step_count t) ≤ length ws →
+    Wrote (step e.o x.node 2 0 test ∷ step e.o e.d 3 0 test ∷ []) 0 v ws vs y →
+    Expanded t b y vs us z →
+    Wrote (guarded test t e back x.node) (1 + made t) x ws us z
+part-wrote {x = x} n s q h w v = rebased s (omega arith) (then-expanded (x.node + 1) (omega arith) (omega arith) w (rw q at v))
 
-module _ {m : ℕ} {s : List ℕ} {tree : Stmt} {found at n i : ℕ} {e : Ends} {ws vs : List ℕ} {y : Next} (here : found ≡ at) where
+module _ {m : ℕ} {s : List ℕ} {tree : Stmt} {found at : ℕ} {e : Ends} {x y : Next} {ws vs : List ℕ} (here : found ≡ at) where
   pub if-expanded :
       {q : ℕ} (p : Conditional if_then m q s found tree) →
-      Wrote (guarded (at + 4) p.body.tree e e.d n) (1 + made p.body.tree) n i ws vs y → Expanded tree e n i ws vs y
+      Wrote (guarded (at + 4) p.body.tree e e.d x.node) (1 + made p.body.tree) x ws vs y → Expanded tree e x ws vs y
   unfolding expand made
   if-expanded p w = rw (p.is, here) (as-statement w)
 
   pub while-expanded :
       {q : ℕ} (p : Conditional while m q s found tree) →
-      Wrote (guarded (at + 4) p.body.tree e e.o n) (1 + made p.body.tree) n i ws vs y → Expanded tree e n i ws vs y
+      Wrote (guarded (at + 4) p.body.tree e e.o x.node) (1 + made p.body.tree) x ws vs y → Expanded tree e x ws vs y
   unfolding expand made
   while-expanded p w = rw (p.is, here) (as-statement w)
 
 pub else-expanded :
-    {m q p : ℕ} {s : List ℕ} {tree : Stmt} {found at n i : ℕ} {e : Ends} {ws vs us zs : List ℕ} {x y w : Next} →
-    (z : Alternative m q p s found tree) → Fit tree found at n i s ws →
-    Wrote (step e.o n 2 0 (at + 4) ∷ step e.o (n + 1) 3 0 (at + 4) ∷ []) 0 (n + 2) i ws vs x →
-    Expanded z.yes.tree (record { o = n; d = e.d; r = e.r }) x.node x.step vs us y →
-    Expanded z.no.tree (record { o = n + 1; d = e.d; r = e.r }) y.node y.step us zs w →
-    Expanded tree e n i ws zs w
+    {m q p : ℕ} {s : List ℕ} {tree : Stmt} {found at : ℕ} {e yes no : Ends} {x v y z w : Next} {ws vs us zs : List ℕ} →
+    (a : Alternative m q p s found tree) → Fit tree found at x s ws →
+    v.node ≡ x.node + 2 → v.step ≡ x.step →
+    yes ≡ record { o = x.node; d = e.d; r = e.r } → no ≡ record { o = x.node + 1; d = e.d; r = e.r } →
+    Wrote (step e.o yes.o 2 0 (at + 4) ∷ step e.o no.o 3 0 (at + 4) ∷ []) 0 v ws vs y →
+    Expanded a.yes.tree yes y vs us z →
+    Expanded a.no.tree no z us zs w →
+    Expanded tree e x ws zs w
 unfolding expand made
-else-expanded {n = n} {e = e} z f c t u =
+else-expanded {e = e} {yes} {no} {x} a f hn hs hy hz c t u =
     let h = f.room in
-    let k = else-steps z in
-    let l = expand-length z.yes.tree n e.d e.r (n + 2) in
-    let a = then-expanded (n + 2) (omega arith) (omega arith) c t in
-    let b = then-expanded (n + 2 + made z.yes.tree) (omega arith) (omega arith) a u in
-    rw (z.is, f.here) (as-statement (rebased (omega arith) b))
+    let k = else-steps a in
+    let l = expand-length a.yes.tree x.node e.d e.r (x.node + 2) in
+    let first = then-expanded (x.node + 2) (omega arith) (omega arith) (rw (hy, hz) at c) (rw hy at t) in
+    let both = then-expanded (x.node + 2 + made a.yes.tree) (omega arith) (omega arith) first (rw hz at u) in
+    rw (a.is, f.here) (as-statement (rebased hs (omega arith) both))
 
 -- ---- loops
 
 pub for-expanded :
-    {m q p r : ℕ} {s : List ℕ} {tree : Stmt} {found at n i : ℕ} {e : Ends} {ws vs us zs ys : List ℕ} {x y z w : Next} →
-    (f : Repetition m q p r s found tree) → Fit tree found at n i s ws →
-    Wrote (step e.o n 4 0 (at + 4) ∷ []) 0 (n + 3) i ws vs x →
-    Wrote (step n (n + 1) 2 0 (at + (4 + q)) ∷ step n e.d 3 0 (at + (4 + q)) ∷ []) 0 x.node x.step vs us y →
-    Expanded f.body.tree (record { o = n + 1; d = n + 2; r = e.r }) y.node y.step us zs z →
-    Wrote (step (n + 2) n 4 0 (at + (4 + q + p)) ∷ []) 0 z.node z.step zs ys w →
-    Expanded tree e n i ws ys w
+    {m q p r : ℕ} {s : List ℕ} {tree : Stmt} {found at : ℕ} {e b : Ends} {x u v y z w : Next} {ws vs us zs ys : List ℕ} →
+    (f : Repetition m q p r s found tree) → Fit tree found at x s ws →
+    u.node ≡ x.node + 3 → u.step ≡ x.step → b ≡ record { o = x.node + 1; d = x.node + 2; r = e.r } →
+    Wrote (step e.o x.node 4 0 (at + 4) ∷ []) 0 u ws vs v →
+    Wrote (step x.node b.o 2 0 (at + (4 + q)) ∷ step x.node e.d 3 0 (at + (4 + q)) ∷ []) 0 v vs us y →
+    Expanded f.body.tree b y us zs z →
+    Wrote (step b.d x.node 4 0 (at + (4 + q + p)) ∷ []) 0 z zs ys w →
+    Expanded tree e x ws ys w
 unfolding expand made
-for-expanded {q = q} {p = p} {at = at} {n = n} {i = i} {e = e} {ws = ws} {vs = vs} {zs = zs} {ys = ys} {x = x} {z = z} {w = w} f g a b t c =
+for-expanded {q = q} {p = p} {at = at} {e = e} {b} {x} {u} {v} {z = z} {w = w} {ws = ws} {vs = vs} {zs = zs} {ys = ys} f g hn hs hb first test body last =
     let h = g.room in
     let k = for-steps f in
+    let n = x.node in
     let l = expand-length f.body.tree (n + 1) (n + 2) e.r (n + 3) in
-    let first = subst (λ s. Wrote (s ∷ []) 0 (n + 3) i ws vs x) (loop-set-step f.initial (at + 4) e.o n e.r) a in
-    let end = subst (λ s. Wrote (s ∷ []) 0 z.node z.step zs ys w) (loop-set-step f.closing (at + (4 + q + p)) (n + 2) n e.r) c in
-    let u = wrote_then (omega arith) first b in
-    let v = then-expanded (n + 3) (omega arith) (omega arith) u t in
-    rw (f.is, g.here) (as-statement (rebased (omega arith) (wrote_then (omega arith) v end)))
+    let begin = subst (λ s. Wrote (s ∷ []) 0 u ws vs v) (loop-set-step f.initial (at + 4) e.o n e.r) first in
+    let end = subst (λ s. Wrote (s ∷ []) 0 z zs ys w) (loop-set-step f.closing (at + (4 + q + p)) (n + 2) n e.r) (rw hb at last) in
+    let tested = wrote_then (omega arith) begin (rw hb at test) in
+    let done = then-expanded (n + 3) (omega arith) (omega arith) tested (rw hb at body) in
+    rw (f.is, g.here) (as-statement (rebased hs (omega arith) (wrote_then (omega arith) done end)))

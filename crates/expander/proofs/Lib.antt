@@ -1,4 +1,5 @@
 -- What the proofs of several functions, and of other crates, use.
+pub mod Bounds
 pub mod Words
 pub mod Counts
 pub mod Fits

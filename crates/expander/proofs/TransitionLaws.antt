@@ -24,6 +24,7 @@ use Rattle.records.proofs.StepCounts.{expand-length}
 use Rattle.expander.specs.declared.Next.{Next}
 use Rattle.expander.specs.Writing.{over, Wrote, Expanded, Fit}
 use Rattle.expander.specs.Transitions.{GoodTransition, transition_steps, TransitionExpanded, TransitionFit}
+use Rattle.expander.proofs.Counts.{size_is}
 use Rattle.expander.proofs.Words.{then-expanded}
 
 -- ---- reading
@@ -144,6 +145,17 @@ transition-parts {n} {s} long a q hq =
       is = sym (ap (λ (u : Transition). u.action) tree);
     }
 
+-- what the code's arithmetic goes by
+pub transition_length : {s : List ℕ} → GoodTransition s → 12 ≤ length s
+transition_length a = let x = transition-parts refl a _ refl in omega (arith, x.twelve, x.high)
+
+pub action_fits :
+    {s : List ℕ} → GoodTransition s →
+    (number (take 2 (drop 0 s)) ≤ length s) × (8 + number (take 2 (drop 8 s)) ≤ number (take 2 (drop 0 s)))
+action_fits {s} a = let x = transition-parts (size_is s refl) a _ refl in (x.high, x.fits)
+
+pub ruleset record_bounds = (transition_length, action_fits)
+
 -- ---- expanding
 
 -- one element of the transitions, and the others
@@ -158,14 +170,16 @@ unfolding transition_steps
 transition-length t n = omega (arith, expand-length t.action n t.to t.to (n + 1))
 
 pub as-transition-steps :
-    {t : Transition} {n i : ℕ} {ws vs : List ℕ} {x : Next} → TransitionExpanded t n i ws vs x →
-    Wrote (transition_steps t n) (1 + made t.action) n i ws vs x
-as-transition-steps {t} {n} {i} w =
-    record { words = w.words; node = omega (arith, w.node); step = w.step ∙ ap (λ k. i + k) (sym (transition-length t n)) }
+    {t : Transition} {x r : Next} {ws vs : List ℕ} → TransitionExpanded t x ws vs r →
+    Wrote (transition_steps t x.node) (1 + made t.action) x ws vs r
+as-transition-steps {t} {x} w =
+    record { words = w.words; node = omega (arith, w.node); step = w.step ∙ ap (λ k. x.step + k) (sym (transition-length t x.node)) }
 
-module _ {n q : ℕ} {s : List ℕ} {t : Transition} {found at node i : ℕ} {ws : List ℕ} (x : Parts n q s found t) (f : TransitionFit t found at node i s ws) where
-  pub action-fit : {vs : List ℕ} → length vs ≡ length ws → Fit x.action.tree x.action.at (at + (8 + q)) (node + 1) (i + 1) (part (8 + q) n s) vs
-  action-fit h =
+module _ {n q : ℕ} {s : List ℕ} {t : Transition} {found at : ℕ} {z : Next} {ws : List ℕ} (x : Parts n q s found t) (f : TransitionFit t found at z s ws) where
+  pub action-fit :
+      {y : Next} {vs : List ℕ} → y.node ≡ z.node + 1 → y.step ≡ z.step + 1 → length vs ≡ length ws →
+      Fit x.action.tree x.action.at (at + (8 + q)) y (part (8 + q) n s) vs
+  action-fit hn hs h =
       record {
         here = omega (arith, x.action_at, f.here);
         offsets = omega (arith, f.offsets, part_length (8 + q) n s x.high, x.high, x.fits);
@@ -174,19 +188,19 @@ module _ {n q : ℕ} {s : List ℕ} {t : Transition} {found at node i : ℕ} {ws
       }
 
   pub transition-expanded :
-      {vs us : List ℕ} {r : Next} {name source target : ℕ} →
+      {y r : Next} {vs us : List ℕ} {name source target : ℕ} →
+      y.node ≡ z.node + 1 → y.step ≡ z.step + 1 →
       name ≡ get_or s 4 0 → source ≡ get_or s 5 0 → target ≡ get_or s 6 0 →
-      vs ≡ over i (table (step source node 1 name (at + 8) ∷ [])) ws →
-      Expanded x.action.tree (record { o = node; d = target; r = target }) (node + 1) (i + 1) vs us r →
-      TransitionExpanded t node i ws us r
+      vs ≡ over z.step (table (step source z.node 1 name (at + 8) ∷ [])) ws →
+      Expanded x.action.tree (record { o = z.node; d = target; r = target }) y vs us r →
+      TransitionExpanded t z ws us r
   unfolding transition_steps
-  transition-expanded {vs} {us} {r} {name} {source} {target} a b c e w =
-      let first : Wrote (step source node 1 name (at + 8) ∷ []) 0 (node + 1) i ws vs (record { node = node + 1; step = i + 1 }) =
-      record { words = e; node = omega arith; step = refl } in
-      let z = ap step_count x.is in
-      let y = then-expanded (node + 1) (omega arith) (omega (arith, f.room)) first w in
+  transition-expanded {y} {r} {vs} {us} {name} {source} {target} hn hs a b c e w =
+      let first : Wrote (step source z.node 1 name (at + 8) ∷ []) 1 z ws vs y = record { words = e; node = hn; step = hs } in
+      let count = ap step_count x.is in
+      let all = then-expanded (z.node + 1) refl (omega (arith, f.room)) first w in
       record {
-        words = rw (x.name, x.source, x.target, x.guard, x.is, f.here, ← a, ← b, ← c) y.words;
-        node = omega (arith, y.node, ap made x.is);
+        words = rw (x.name, x.source, x.target, x.guard, x.is, f.here, ← a, ← b, ← c) all.words;
+        node = omega (arith, all.node, ap made x.is);
         step = omega (arith, w.step);
       }

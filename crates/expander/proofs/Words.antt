@@ -3,18 +3,23 @@
 use Prim.Native.Nat.{ℕ, ◌+◌, ◌*◌, ◌≤◌}
 use mathlib.Core.Path.{◌≡◌, refl, sym, ap, ap₂, subst, ◌∙◌}
 use mathlib.Core.List.{List, [], ◌∷◌, ◌++◌, append_assoc, append-nil}
-use native.Mathlib.Numerals.{add-one, add-two, add-three, add-four}
 use native.Mathlib.Omega.{arith}
-use lib.ListN.{length, take, drop, set, length-append, length-drop, take-append-drop}
-use lib.Seq.{length-take-le, take_at, drop_at, drop-drop, sets-eq}
+use borrow.Rule.Slice.PartMut.{put_mid}
+use Rattle.std.proofs.lemmas.Slice.{put_mid-paste}
+use lib.ListN.{length, take, drop, length-append, length-drop, take-append-drop}
+use lib.Seq.{length-take-le, take_at, drop_at, drop-drop}
 use Rattle.rules.specs.Basics.{joined}
 use Rattle.rules.specs.Syntax.{Stmt}
 use Rattle.rules.specs.Expanding.{Step, step, made, expand, words_of, table}
 use Rattle.records.specs.Counting.{step_count}
 use Rattle.records.proofs.StepCounts.{expand-length}
 use Rattle.expander.specs.declared.Ends.{Ends}
+use denote.Enum.Declared.{tag_of}
+use Rattle.expander.specs.contracts.StepKind.{the_type}
+use Rattle.expander.specs.declared.StepKind.{StepKind}
+use Rattle.expander.specs.declared.StepKind.TheVariants.{Guard, True, False, Set, Transfer, Require, Return}
 use Rattle.expander.specs.declared.Next.{Next}
-use Rattle.expander.specs.Writing.{over, Wrote, Expanded}
+use Rattle.expander.specs.Writing.{number_of, over, Wrote, Expanded}
 
 -- ---- the table of steps
 
@@ -54,11 +59,22 @@ over-over i k a b ws e h =
 
 -- ---- steps over words
 
+-- the number that a cast of the kind gives
+pub number-is : (k : StepKind) → tag_of the_type k + 1 ≡ number_of k
+number-is Guard = refl
+number-is True = refl
+number-is False = refl
+number-is Set = refl
+number-is Transfer = refl
+number-is Require = refl
+number-is Return = refl
+
+-- a step's words in place of five, as copying them leaves them
 pub one-over :
-    (i o t k n a : ℕ) (ws : List ℕ) → 5 * i + 5 ≤ length ws →
-    set (set (set (set (set ws (5 * i) o) (5 * i + 1) t) (5 * i + 2) k) (5 * i + 3) n) (5 * i + 4) a ≡ over i (table (step o t k n a ∷ [])) ws
+    (i o t k n a m : ℕ) (ws ys : List ℕ) → m ≡ 5 → ys ≡ o ∷ t ∷ k ∷ n ∷ a ∷ [] →
+    put_mid (5 * i) m ws ys ≡ over i (table (step o t k n a ∷ [])) ws
 unfolding over table joined words_of
-one-over i o t k n a ws h = rw (add-one, add-two, add-three, add-four) (sets-eq (o ∷ t ∷ k ∷ n ∷ a ∷ []) ws (5 * i) h)
+one-over i o t k n a m ws ys h e = put_mid-paste (5 * i) m ws ys (o ∷ t ∷ k ∷ n ∷ a ∷ []) 5 e (sym h) refl
 
 pub steps-length : (i : ℕ) (a : List Step) (ws : List ℕ) → 5 * (i + length a) ≤ length ws → length (over i (table a) ws) ≡ length ws
 steps-length i a ws h = over-length i (table a) ws (omega (arith, table-length a))
@@ -77,7 +93,7 @@ over_first a ws =
 -- ---- one writing after another
 
 -- nothing yet
-pub wrote_none : (x : Next) (ws : List ℕ) → Wrote [] 0 x.node x.step ws ws x
+pub wrote_none : (x : Next) (ws : List ℕ) → Wrote [] 0 x ws ws x
 unfolding over table joined
 wrote_none x ws =
     let n = 5 * x.step in
@@ -89,52 +105,60 @@ wrote_none x ws =
     }
 
 pub wrote-two :
-    {p q : Step} {n i : ℕ} {ws vs us : List ℕ} →
-    5 * (i + 2) ≤ length ws →
-    vs ≡ over i (table (p ∷ [])) ws → us ≡ over (i + 1) (table (q ∷ [])) vs → Wrote (p ∷ q ∷ []) 0 n i ws us (record { node = n; step = i + 2 })
-wrote-two {p} {q} {i = i} {ws = ws} h e f =
+    {p q : Step} {x r : Next} {ws vs us : List ℕ} →
+    5 * (x.step + 2) ≤ length ws →
+    vs ≡ over x.step (table (p ∷ [])) ws → us ≡ over (x.step + 1) (table (q ∷ [])) vs → r.node ≡ x.node → r.step ≡ x.step + 2 →
+    Wrote (p ∷ q ∷ []) 0 x ws us r
+wrote-two {p} {q} {x} {ws = ws} h e f n s =
     record {
-      words = f ∙ ap (over (i + 1) (table (q ∷ []))) e ∙ steps-over i (p ∷ []) (q ∷ []) ws (omega arith);
+      words = f ∙ ap (over (x.step + 1) (table (q ∷ []))) e ∙ steps-over x.step (p ∷ []) (q ∷ []) ws (omega arith);
       node = omega arith;
-      step = refl;
+      step = s;
     }
 
 pub wrote-length :
-    {a : List Step} {m n i : ℕ} {ws vs : List ℕ} {x : Next} →
-    5 * (i + length a) ≤ length ws → Wrote a m n i ws vs x → length vs ≡ length ws
-wrote-length {a} {i = i} {ws = ws} h w = ap length w.words ∙ steps-length i a ws h
+    {a : List Step} {m : ℕ} {x r : Next} {ws vs : List ℕ} →
+    5 * (x.step + length a) ≤ length ws → Wrote a m x ws vs r → length vs ≡ length ws
+wrote-length {a} {x = x} {ws = ws} h w = ap length w.words ∙ steps-length x.step a ws h
 
 pub wrote_then :
-    {a b : List Step} {m k n i : ℕ} {ws vs us : List ℕ} {x y : Next} →
-    5 * (i + length a + length b) ≤ length ws →
-    Wrote a m n i ws vs x → Wrote b k x.node x.step vs us y → Wrote (a ++ b) (m + k) n i ws us y
-wrote_then {a} {b} {i = i} {ws = ws} h w v =
+    {a b : List Step} {m k : ℕ} {x y z : Next} {ws vs us : List ℕ} →
+    5 * (x.step + length a + length b) ≤ length ws →
+    Wrote a m x ws vs y → Wrote b k y vs us z → Wrote (a ++ b) (m + k) x ws us z
+wrote_then {a} {b} {x = x} {ws = ws} h w v =
     record {
-      words = v.words ∙ ap₂ (λ j l. over j (table b) l) w.step w.words ∙ steps-over i a b ws h;
+      words = v.words ∙ ap₂ (λ j l. over j (table b) l) w.step w.words ∙ steps-over x.step a b ws h;
       node = omega (arith, w.node, v.node);
       step = omega (arith, w.step, v.step, length-append a b);
     }
 
 -- the same nodes, counted from elsewhere
-pub rebased : {a : List Step} {m n p k i : ℕ} {ws vs : List ℕ} {x : Next} → n + m ≡ p + k → Wrote a m n i ws vs x → Wrote a k p i ws vs x
-rebased e w = record { words = w.words; node = w.node ∙ e; step = w.step }
+pub rebased :
+    {a : List Step} {m k : ℕ} {x y r : Next} {ws vs : List ℕ} →
+    y.step ≡ x.step → y.node + m ≡ x.node + k → Wrote a m y ws vs r → Wrote a k x ws vs r
+rebased {a} {x = x} {ws = ws} p q w =
+    record {
+      words = w.words ∙ ap (λ n. over n (table a) ws) p;
+      node = w.node ∙ q;
+      step = w.step ∙ ap (λ n. n + length a) p;
+    }
 
 -- ---- statements
 
-pub as-steps : {t : Stmt} {e : Ends} {n i : ℕ} {ws vs : List ℕ} {x : Next} → Expanded t e n i ws vs x → Wrote (expand t e.o e.d e.r n) (made t) n i ws vs x
-as-steps {t} {e} {n} {i} w =
-    record { words = w.words; node = w.node; step = w.step ∙ ap (λ k. i + k) (sym (expand-length t e.o e.d e.r n)) }
+pub as-steps : {t : Stmt} {e : Ends} {x r : Next} {ws vs : List ℕ} → Expanded t e x ws vs r → Wrote (expand t e.o e.d e.r x.node) (made t) x ws vs r
+as-steps {t} {e} {x} w =
+    record { words = w.words; node = w.node; step = w.step ∙ ap (λ k. x.step + k) (sym (expand-length t e.o e.d e.r x.node)) }
 
-pub as-statement : {t : Stmt} {e : Ends} {n i : ℕ} {ws vs : List ℕ} {x : Next} → Wrote (expand t e.o e.d e.r n) (made t) n i ws vs x → Expanded t e n i ws vs x
-as-statement {t} {e} {n} {i} w =
-    record { words = w.words; node = w.node; step = w.step ∙ ap (λ k. i + k) (expand-length t e.o e.d e.r n) }
+pub as-statement : {t : Stmt} {e : Ends} {x r : Next} {ws vs : List ℕ} → Wrote (expand t e.o e.d e.r x.node) (made t) x ws vs r → Expanded t e x ws vs r
+as-statement {t} {e} {x} w =
+    record { words = w.words; node = w.node; step = w.step ∙ ap (λ k. x.step + k) (expand-length t e.o e.d e.r x.node) }
 
 -- a statement after other steps; p is its first new node
 pub then-expanded :
-    {a : List Step} {m n i : ℕ} {ws vs us : List ℕ} {x y : Next} {t : Stmt} {e : Ends} (p : ℕ) → n + m ≡ p →
-    5 * (i + length a + step_count t) ≤ length ws →
-    Wrote a m n i ws vs x → Expanded t e x.node x.step vs us y →
-    Wrote (a ++ expand t e.o e.d e.r p) (m + made t) n i ws us y
-then-expanded {a} {m} {n} {i} {ws} {us = us} {x = x} {y = y} {t = t} {e = e} p q h w v =
-    subst (λ k. Wrote (a ++ expand t e.o e.d e.r k) (m + made t) n i ws us y) (w.node ∙ q)
-    (wrote_then (omega (arith, h, expand-length t e.o e.d e.r x.node)) w (as-steps v))
+    {a : List Step} {m : ℕ} {x y z : Next} {ws vs us : List ℕ} {t : Stmt} {e : Ends} (p : ℕ) → x.node + m ≡ p →
+    5 * (x.step + length a + step_count t) ≤ length ws →
+    Wrote a m x ws vs y → Expanded t e y vs us z →
+    Wrote (a ++ expand t e.o e.d e.r p) (m + made t) x ws us z
+then-expanded {a} {m} {x} {y} {z} {ws} {us = us} {t = t} {e = e} p q h w v =
+    subst (λ k. Wrote (a ++ expand t e.o e.d e.r k) (m + made t) x ws us z) (w.node ∙ q)
+    (wrote_then (omega (arith, h, expand-length t e.o e.d e.r y.node)) w (as-steps v))

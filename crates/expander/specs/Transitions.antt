@@ -23,22 +23,22 @@ pub record GoodTransition (bytes : List ℕ) : Type 0 where
 unfoldable pub transition_steps : Transition → (n : ℕ) → List Step
 transition_steps t n = step t.from n 1 t.name t.guard_at ∷ expand t.action n t.to t.to (n + 1)
 
--- its steps were written from the i-th on, and its nodes were made from n on
-pub record TransitionExpanded (t : Transition) (n i : ℕ) (before after : List ℕ) (r : Next) : Type 0 where
-  pub words : after ≡ over i (table (transition_steps t n)) before
-  pub node : r.node ≡ n + 1 + made t.action
-  pub step : r.step ≡ i + (1 + step_count t.action)
+-- its steps were written and its nodes made from x on, and expanding goes on at r
+pub record TransitionExpanded (t : Transition) (x : Next) (before after : List ℕ) (r : Next) : Type 0 where
+  pub words : after ≡ over x.step (table (transition_steps t x.node)) before
+  pub node : r.node ≡ x.node + 1 + made t.action
+  pub step : r.step ≡ x.step + (1 + step_count t.action)
 
 -- a transition that was read in these bytes can be expanded, as `Writing.Fit` says it of a statement
-pub record TransitionFit (t : Transition) (found at n i : ℕ) (bytes words : List ℕ) : Type 0 where
+pub record TransitionFit (t : Transition) (found at : ℕ) (x : Next) (bytes words : List ℕ) : Type 0 where
   pub here : found ≡ at
   pub offsets : at + length bytes < 2 ^ 32
-  pub nodes : n + 1 + made t.action < 2 ^ 32
-  pub room : 5 * (i + (1 + step_count t.action)) ≤ length words
+  pub nodes : x.node + 1 + made t.action < 2 ^ 32
+  pub room : 5 * (x.step + (1 + step_count t.action)) ≤ length words
 
-abbrev pub TransitionExpandable : (at n i : ℕ) (bytes words : List ℕ) → Type 0
-TransitionExpandable at n i bytes words = (a : GoodTransition bytes) × TransitionFit a.tree a.at at n i bytes words
+abbrev pub TransitionExpandable : (at : ℕ) (x : Next) (bytes words : List ℕ) → Type 0
+TransitionExpandable at x bytes words = (a : GoodTransition bytes) × TransitionFit a.tree a.at at x bytes words
 
-abbrev pub TransitionExpands : (at n i : ℕ) (bytes before after : List ℕ) (r : Next) → Type 0
-TransitionExpands at n i bytes before after r =
-    (a : GoodTransition bytes) → TransitionFit a.tree a.at at n i bytes before → TransitionExpanded a.tree n i before after r
+abbrev pub TransitionExpands : (at : ℕ) (x : Next) (bytes before after : List ℕ) (r : Next) → Type 0
+TransitionExpands at x bytes before after r =
+    (a : GoodTransition bytes) → TransitionFit a.tree a.at at x bytes before → TransitionExpanded a.tree x before after r

@@ -6,6 +6,20 @@ pub mod statements;
 pub mod transitions;
 pub mod writing;
 
+ghost use Rattle.std.specs.Prelude.{◌≡◌, ◌+◌, ◌^◌, ◌<◌};
+
+// A step's kind, by its number in the table.
+#[derive(Clone, Copy, PartialEq, Eq)]
+pub enum StepKind {
+    Guard = 1,
+    True = 2,
+    False = 3,
+    Set = 4,
+    Transfer = 5,
+    Require = 6,
+    Return = 7,
+}
+
 // The nodes that a statement is expanded between: from o to d, with the return node r.
 #[derive(Clone, Copy)]
 pub struct Ends {
@@ -14,9 +28,33 @@ pub struct Ends {
     pub r: u32,
 }
 
+impl Ends {
+    // Other nodes, with the same return node.
+    pub fn between(self, o: u32, d: u32) -> Ends
+        ensures { result ≡ record { o = o; d = d; r = self.r } }
+    {
+        Ends { o, d, r: self.r }
+    }
+}
+
 // Where expanding goes on: the next new node, and the place of the next step.
 #[derive(Clone, Copy)]
 pub struct Next {
     pub node: u32,
     pub step: usize,
+}
+
+impl Next {
+    // Where expanding goes on after so many nodes and steps.
+    pub fn after(self, nodes: u32, steps: usize) -> Next
+        requires nodes_fit { self.node + nodes < 2 ^ 32 }
+        requires steps_fit { self.step + steps < 2 ^ 64 }
+        ensures node { result.node ≡ self.node + nodes }
+        ensures step { result.step ≡ self.step + steps }
+    {
+        Next {
+            node: self.node + nodes,
+            step: self.step + steps,
+        }
+    }
 }

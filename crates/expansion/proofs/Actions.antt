@@ -27,9 +27,9 @@ use Rattle.expansion.proofs.Files.{has_room}
 
 module _
     {file : List ℕ} {at : ℕ} {tree : Stmt} (h : ActionAt file at tree) (small : length file ≤ 32768)
-    {n i : ℕ} {ws : List ℕ} (nodes : n + made tree < 2 ^ 32) (room : 5 * (i + step_count tree) ≤ length ws)
+    {x : Next} {ws : List ℕ} (nodes : x.node + made tree < 2 ^ 32) (room : 5 * (x.step + step_count tree) ≤ length ws)
   where
-    pub action-ready : Expandable at n i (from at file) ws
+    pub action-ready : Expandable at x (from at file) ws
     action-ready =
         let g = h.good (from at file) (from-drop at file) in (
           g.0,
@@ -41,11 +41,11 @@ module _
           },
         )
 
-    pub action-expanded : {e : Ends} {vs : List ℕ} {r : Next} → Expands at e n i (from at file) ws vs r → Expanded tree e n i ws vs r
+    pub action-expanded : {e : Ends} {vs : List ℕ} {r : Next} → Expands at e x (from at file) ws vs r → Expanded tree e x ws vs r
     unfolding action-ready
-    action-expanded {e} {vs} {r} x =
+    action-expanded {e} {vs} {r} k =
         let g = h.good (from at file) (from-drop at file) in
-        subst (λ (t : Stmt). Expanded t e n i ws vs r) g.2 (x action-ready.0 action-ready.1)
+        subst (λ (t : Stmt). Expanded t e x ws vs r) g.2 (k action-ready.0 action-ready.1)
 
 -- ---- the steps of both
 
@@ -66,11 +66,15 @@ actions-few a =
     omega
     (arith, ap length (expansion-parts a), length-append (action_steps a) (expand_transitions a.transitions (first_new a.fields + action_nodes a)), actions-length a)
 
+-- the first new node and the first step
+abbrev pub first_next : (s : ℕ) → Next
+first_next s = record { node = s + 3; step = 0 }
+
 pub actions-wrote :
     (a : Agreement) {s d : ℕ} {ws vs us : List ℕ} {x y : Next} → s ≡ a.fields.states → d ≡ a.fields.start →
     5 * length (action_steps a) ≤ length ws →
-    Expanded a.initial (record { o = s + 2; d = d; r = d }) (s + 3) 0 ws vs x →
-    Expanded a.fallback (record { o = s + 1; d = s; r = s }) x.node x.step vs us y →
+    Expanded a.initial (record { o = s + 2; d = d; r = d }) (first_next s) ws vs x →
+    Expanded a.fallback (record { o = s + 1; d = s; r = s }) x vs us y →
     ActionsWrote a ws us y
 unfolding action_steps
 actions-wrote a {s} {d} {ws} {us = us} {y = y} hs hd room first second =
@@ -106,11 +110,11 @@ module _
           room = omega (arith, has_room p a);
         }
 
-    pub initial-ready : Expandable l.initial (s + 3) 0 (from l.initial file) ws
+    pub initial-ready : Expandable l.initial (first_next s) (from l.initial file) ws
     initial-ready = action-ready (initial-at h (tree_of a)) fits.small (omega (arith, fits.nodes)) (omega (arith, fits.room))
 
-    module _ {vs : List ℕ} {x : Next} (first : Expands l.initial (initial_ends s d) (s + 3) 0 (from l.initial file) ws vs x) (same : length vs ≡ length ws) where
-      initial-expanded : Expanded a.tree.initial (initial_ends s d) (s + 3) 0 ws vs x
+    module _ {vs : List ℕ} {x : Next} (first : Expands l.initial (initial_ends s d) (first_next s) (from l.initial file) ws vs x) (same : length vs ≡ length ws) where
+      initial-expanded : Expanded a.tree.initial (initial_ends s d) (first_next s) ws vs x
       initial-expanded = action-expanded (initial-at h (tree_of a)) fits.small (omega (arith, fits.nodes)) (omega (arith, fits.room)) first
 
       fallback-nodes : x.node + made a.tree.fallback < 2 ^ 32
@@ -119,11 +123,11 @@ module _
       fallback-room : 5 * (x.step + step_count a.tree.fallback) ≤ length vs
       fallback-room = omega (arith, fits.room, initial-expanded.step)
 
-      pub fallback-ready : Expandable l.fallback x.node x.step (from l.fallback file) vs
+      pub fallback-ready : Expandable l.fallback x (from l.fallback file) vs
       fallback-ready = action-ready (fallback-at h (tree_of a)) fits.small fallback-nodes fallback-room
 
       pub both-wrote :
-          {us : List ℕ} {y : Next} → Expands l.fallback (fallback_ends s) x.node x.step (from l.fallback file) vs us y →
+          {us : List ℕ} {y : Next} → Expands l.fallback (fallback_ends s) x (from l.fallback file) vs us y →
           ActionsWrote a.tree ws us y
       both-wrote second =
           actions-wrote a.tree hs hd (omega (arith, fits.room, actions-length a.tree)) initial-expanded

@@ -1,15 +1,15 @@
--- Words compared one by one, and what is compared with.
+-- Words compared with an expansion.
 -- Assumes nothing.
-use Prim.Native.Nat.{ℕ, suc, ◌+◌, ◌-◌, ◌*◌, ◌≤◌, ◌<◌}
-use mathlib.Core.Path.{◌≡◌, sym, ap, ◌∙◌}
-use mathlib.Core.Bool.{true, false, ◌&&◌}
-use mathlib.Core.List.{List, ◌∷◌}
+use Prim.Native.Nat.{ℕ, ◌*◌}
+use mathlib.Core.Path.{◌≡◌, refl, ap, ◌∙◌}
+use mathlib.Core.Bool.{Bool, ◌&&◌}
+use mathlib.Core.List.{List, [], ◌∷◌}
 use native.Mathlib.Omega.{arith}
-use native.Mathlib.Numerals.{add-one}
 use lib.Dec.{eqb}
-use lib.ListN.{length, get_or, take, drop}
-use lib.Seq.{drop-cons, take_at}
-use borrow.Author.Tests.{eq-eqb, ne_eqb}
+use lib.ListN.{length, take, drop}
+use lib.Seq.{take_at}
+use Rattle.std.proofs.lemmas.Bool.Decides.{nat_tests}
+use Rattle.std.specs.List.{starts_with}
 use Rattle.rules.specs.Syntax.{Agreement}
 use Rattle.rules.specs.Expanding.{expansion, table}
 use Rattle.rules.specs.Accepting.{written}
@@ -19,33 +19,18 @@ use Rattle.expander.proofs.Words.{table-length}
 use Rattle.access.proofs.Using.{same-accepted}
 use Rattle.expansion.specs.Writing.{HasSteps}
 
--- ---- whether a begins with the first n words of b
+-- ---- whether words begin with others
 
--- the same of the words from i on
-abbrev pub begins_from : (a b : List ℕ) (n i : ℕ) → Type 0
-begins_from a b n i = begins_with a (take n b) ≡ begins_with (drop i a) (take (n - i) (drop i b))
+-- equality of numbers, either way round
+eqb_comm : (a b : ℕ) → eqb a b ≡ eqb b a
+eqb_comm a b = grind (arith, nat_tests)
 
-pub from-none : (a b : List ℕ) (n : ℕ) → begins_from a b n 0
-from-none a b n = let z : n ≡ n - 0 = omega arith in ap (λ k. begins_with a (take k b)) z
-
-pub from_all : (a b : List ℕ) (n i : ℕ) → n ≤ i → begins_from a b n i → true ≡ begins_with a (take n b)
+-- what the library says of it
+pub begins-is : (ws front : List ℕ) → starts_with eqb ws front ≡ begins_with ws front
 unfolding begins_with
-from_all a b n i h e = let z : n - i ≡ 0 = omega arith in sym (e ∙ rw z)
-
-module _ (a b : List ℕ) (n i : ℕ) (less : i < n) (ha : n ≤ length a) (hb : n ≤ length b) (e : begins_from a b n i) where
-  one : begins_with a (take n b) ≡ (eqb (get_or a i 0) (get_or b i 0) && begins_with (drop (i + 1) a) (take (n - (i + 1)) (drop (i + 1) b)))
-  unfolding begins_with
-  one =
-      let p : drop i a ≡ get_or a i 0 ∷ drop (i + 1) a = rw add-one (drop-cons a i 0 (omega arith)) in
-      let q : drop i b ≡ get_or b i 0 ∷ drop (i + 1) b = rw add-one (drop-cons b i 0 (omega arith)) in
-      let z : n - i ≡ suc (n - (i + 1)) = omega arith in
-      e ∙ rw (p, q, z)
-
-  pub from-other : (get_or a i 0 ≡ get_or b i 0 → ⊥) → false ≡ begins_with a (take n b)
-  from-other h = sym (one ∙ rw (ne_eqb _ _ h))
-
-  pub from_next : get_or a i 0 ≡ get_or b i 0 → begins_from a b n (i + 1)
-  from_next h = one ∙ rw (eq-eqb _ _ h)
+begins-is ws [] = refl
+begins-is [] (y ∷ ys) = refl
+begins-is (w ∷ ws) (y ∷ ys) = rw (eqb_comm y w) (ap (λ (b : Bool). eqb w y && b) (begins-is ws ys))
 
 -- ---- an expansion that was written
 

@@ -5,7 +5,8 @@ use mathlib.Core.Path.{◌≡◌, refl, sym, ap, subst, ◌∙◌}
 use mathlib.Core.List.{List, [], ◌∷◌, ◌++◌, append_assoc, append-nil}
 use native.Mathlib.Omega.{arith}
 use native.Mathlib.Numerals.{add-one}
-use lib.ListN.{length, drop, length-append, length-drop}
+use lib.ListN.{length, take, drop, length-append, length-drop}
+use Rattle.rules.specs.Basics.{number}
 use Rattle.rules.specs.Syntax.{Transition, Agreement}
 use Rattle.rules.specs.Reading.{size_of, child, transition_body}
 use Rattle.rules.specs.Expanding.{Step, made, expand_transitions, expansion, first_new, table}
@@ -20,7 +21,7 @@ use Rattle.access.specs.Places.{past, Laid}
 use Rattle.access.proofs.Groups.{Entry, group-read}
 use Rattle.access.proofs.Bodies.{steady-transition}
 use Rattle.access.proofs.Items.{laid}
-use Rattle.access.proofs.Finding.{looked}
+use Rattle.access.proofs.Finding.{transition_fits, transition_ends}
 use Rattle.access.proofs.Using.{tree-bounds, tree_of, few-steps}
 use Rattle.expander.specs.declared.Next.{Next}
 use Rattle.expander.specs.Writing.{over, Wrote}
@@ -66,6 +67,12 @@ standing {file} {l} h i at less e a =
       here = n.here;
     }
 
+-- it stands within the file
+pub standing-fits :
+    {file : List ℕ} {l : Layout} (h : Laid file l) (i at : ℕ) → i < l.transitions.count → at ≡ past file l.transitions.at i →
+    (at + 12 ≤ length file) × (at + number (take 2 (drop at file)) ≤ length file)
+standing-fits h i at less e = rw e (transition_fits h i less, transition_ends h i less)
+
 -- ---- the walk
 
 -- The steps of the first i transitions have been written: which they are, how many nodes they made, and those that are left.
@@ -74,7 +81,7 @@ pub record Reached (ts : List Transition) (i : ℕ) (start : Next) (before after
   pub nodes : ℕ
   pub few : nodes ≤ length steps
   pub left : expand_transitions ts start.node ≡ steps ++ expand_transitions (drop i ts) next.node
-  pub wrote : Wrote steps nodes start.node start.step before after next
+  pub wrote : Wrote steps nodes start before after next
 
 pub reached-none : (ts : List Transition) (start : Next) (ws : List ℕ) → Reached ts 0 start ws ws start
 reached-none ts start ws = record { steps = []; nodes = 0; few = omega arith; left = refl; wrote = wrote_none start ws }
@@ -103,7 +110,7 @@ module _
 
     pub transition-fit :
         {found at : ℕ} {s : List ℕ} → found ≡ at → at + length s < 2 ^ 32 → start.node + length (expand_transitions ts start.node) < 2 ^ 32 →
-        TransitionFit t found at next.node next.step s vs
+        TransitionFit t found at next s vs
     transition-fit h offsets nodes =
         record {
           here = h;
@@ -112,7 +119,7 @@ module _
           room = omega (arith, r.wrote.step, count, wrote-length (omega (arith, count)) r.wrote);
         }
 
-    pub reached-more : {us : List ℕ} {x : Next} → TransitionExpanded t next.node next.step vs us x → Reached ts (i + 1) start ws us x
+    pub reached-more : {us : List ℕ} {x : Next} → TransitionExpanded t next vs us x → Reached ts (i + 1) start ws us x
     unfolding rest
     reached-more {x = x} w =
         let b = transition_steps t next.node in
@@ -165,16 +172,16 @@ module _
         {i at : ℕ} {us : List ℕ} {y : Next} (less : i < l.transitions.count) (e : at ≡ past file l.transitions.at i)
         (r : Reached a.tree.transitions i x vs us y)
       where
-        next-fit : let s = (standing h i at less e (tree_of a)).good in TransitionFit s.tree s.at at y.node y.step (from at file) us
+        next-fit : let s = (standing h i at less e (tree_of a)).good in TransitionFit s.tree s.at at y (from at file) us
         next-fit =
             let s = standing h i at less e (tree_of a) in
-            let f = (looked h i at less e).fits in
+            let f = standing-fits h i at less e in
             transition-fit r s.here transitions-room s.placed (omega (arith, (tree-bounds (tree_of a)).size, from-length at file)) transitions-nodes
 
-        pub next-ready : TransitionExpandable at y.node y.step (from at file) us
+        pub next-ready : TransitionExpandable at y (from at file) us
         next-ready = ((standing h i at less e (tree_of a)).good, next-fit)
 
         pub next-reached :
-            {ts : List ℕ} {z : Next} → TransitionExpands at y.node y.step (from at file) us ts z →
+            {ts : List ℕ} {z : Next} → TransitionExpands at y (from at file) us ts z →
             Reached a.tree.transitions (i + 1) x vs ts z
         next-reached g = let s = standing h i at less e (tree_of a) in reached-more r s.here transitions-room (g s.good next-fit)

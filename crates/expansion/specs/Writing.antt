@@ -27,4 +27,5 @@ action_nodes a = made a.initial + made a.fallback
 
 -- they were written from the first step on
 abbrev pub ActionsWrote : (a : Agreement) (before after : List ℕ) (r : Next) → Type 0
-ActionsWrote a before after r = Wrote (action_steps a) (action_nodes a) (first_new a.fields) 0 before after r
+ActionsWrote a before after r =
+    Wrote (action_steps a) (action_nodes a) (record { node = first_new a.fields; step = 0 }) before after r

@@ -1,27 +1,12 @@
 // Whether words begin with the expansion of an accepted file.
 // For our own crates only: a caller has to see that the file is accepted, how many steps it has, and that the words have room.
-ghost use Rattle.std.specs.Prelude.{◌≡◌, ◌*◌, ◌≤◌, length, take};
+ghost use Rattle.std.specs.Prelude.{◌≡◌, ◌*◌, ◌≤◌, length};
 ghost use Rattle.rules.specs.Expanding.{expansion, table};
 ghost use Rattle.rules.specs.Stepping.{begins_with};
 ghost use Rattle.access.specs.Trees.{AcceptedFile};
 ghost use Rattle.expansion.specs.Writing.{HasSteps};
 
 use crate::writing::write_expansion;
-
-// Whether a begins with the first n words of b.
-fn same_words(a: &[u32], b: &[u32], n: usize) -> bool
-    requires { (n ≤ length a.now) × (n ≤ length b.now) }
-    ensures { result ≡ begins_with a.now (take n b.now) }
-{
-    let mut i = 0;
-    while i < n {
-        if a[i] != b[i] {
-            return false;
-        }
-        i += 1;
-    }
-    true
-}
 
 // The expansion is written anew, into as many words as any accepted file needs, and compared.
 pub fn is_expansion(file: &[u8], steps: usize, words: &[u32]) -> bool
@@ -30,5 +15,5 @@ pub fn is_expansion(file: &[u8], steps: usize, words: &[u32]) -> bool
 {
     let mut own = [0u32; 5120];
     write_expansion(file, &mut own);
-    same_words(words, &own, 5 * steps)
+    words.starts_with(&own[..5 * steps])
 }

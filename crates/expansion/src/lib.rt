@@ -15,17 +15,13 @@ use rules::{Counted, Refusal};
 pub fn expand(file: &[u8], words: &mut [u32]) -> Counted
     ensures { lent result words.new ≡ expand_file file.now words.old }
 {
-    match read(file) {
-        Counted::Refused(r) => Counted::Refused(r),
-        Counted::Steps(n) => {
-            if words.len() < 5 * (n as usize) {
-                return Counted::Refused(Refusal {
-                    number: 11,
-                    place: 0,
-                });
-            }
-            write_expansion(file, words);
-            Counted::Steps(n)
-        }
+    let n = read(file)?;
+    if words.len() < 5 * (n as usize) {
+        return Err(Refusal {
+            number: 11,
+            place: 0,
+        });
     }
+    write_expansion(file, words);
+    Ok(n)
 }

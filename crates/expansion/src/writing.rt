@@ -10,7 +10,7 @@ use access::Layout;
 use access::fields::fields;
 use access::places::layout;
 use expander::statements::expand_statement;
-use expander::transitions::{expand_transition, wide};
+use expander::transitions::expand_transition;
 use expander::{Ends, Next};
 use records::bytes::u16_at;
 
@@ -20,8 +20,8 @@ fn write_actions(file: &[u8], l: Layout, words: &mut [u32]) -> Next
     ensures { (a : AcceptedFile file.now) → ActionsWrote a.tree words.old words.new result }
 {
     let f = fields(file);
-    let states = wide(f.states);
-    let start = wide(f.start);
+    let states = u32::from(f.states);
+    let start = u32::from(f.start);
     let initial = Ends {
         o: states + 2,
         d: start,
@@ -32,10 +32,14 @@ fn write_actions(file: &[u8], l: Layout, words: &mut [u32]) -> Next
         d: states,
         r: states,
     };
+    let first = Next {
+        node: states + 3,
+        step: 0,
+    };
     let i = l.initial;
     let j = l.fallback;
-    let next = expand_statement(&file[i..], i, initial, states + 3, words, 0);
-    expand_statement(&file[j..], j, fallback, next.node, words, next.step)
+    let next = expand_statement(&file[i..], i, initial, words, first);
+    expand_statement(&file[j..], j, fallback, words, next)
 }
 
 // All of the steps: those of the two actions, then those of the transitions in file order.
@@ -44,13 +48,10 @@ pub fn write_expansion(file: &[u8], words: &mut [u32])
     ensures { (a : AcceptedFile file.now) → words.new ≡ written a.tree words.old }
 {
     let l = layout(file);
-    let n = l.transitions.count;
     let mut next = write_actions(file, l, words);
     let mut at = l.transitions.at;
-    let mut i = 0;
-    while i < n {
-        next = expand_transition(&file[at..], at, next.node, words, next.step);
+    for _ in 0..l.transitions.count {
+        next = expand_transition(&file[at..], at, words, next);
         at += u16_at(file, at);
-        i += 1;
     }
 }

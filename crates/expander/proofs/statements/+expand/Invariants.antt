@@ -1,4 +1,4 @@
-use Prim.Native.Nat.{◌-◌, ◌≤◌}
+use Prim.Native.Nat.{◌≤◌}
 use mathlib.Core.Path.{◌≡◌}
 use lib.ListN.{length}
 use Rattle.rules.specs.Syntax.{block}
@@ -10,13 +10,10 @@ use mathlib.Core.Path.{◌≡◌}
 use Prim.Native.Nat.{◌+◌, ◌*◌}
 use Rattle.expander.proofs.statements.+expand.Given as goal
 
-abbrev pub invariant-expand_block-loop-last : goal.invariant-expand_block-loop-last
-invariant-expand_block-loop-last l =
+abbrev pub invariant-expand_block-loop-j : goal.invariant-expand_block-loop-j
+invariant-expand_block-loop-j l =
     (l.k ≤ length l.s) × (length l.words ≡ length l.initial.words)
-    × ((a : GoodAll l.s) → Fit (block a.tree) a.at l.at l.node l.i l.s l.initial.words → Left a.tree l.at l.ends l.node l.i l.s l.initial.words l.k l.o l.j l.next l.words)
-
-abbrev pub decreases-expand_block-loop-last : goal.decreases-expand_block-loop-last
-decreases-expand_block-loop-last l = length l.s - l.k
+    × ((a : GoodAll l.s) → Fit (block a.tree) a.at l.at l.fn.next l.s l.initial.words → Left a.tree l.at l.ends l.fn.next l.s l.initial.words l.k l.o l.j l.next l.words)
 
 abbrev pub decreases-expand_block : goal.decreases-expand_block
 decreases-expand_block l = 2 * length l.s.now + 2

@@ -1,8 +1,7 @@
--- `write_condition` meets its contract.
+-- Its two steps are written one after the other.
+use native.Mathlib.Omega.{arith}
 use Rattle.expander.proofs.Words.{wrote-two}
 use Rattle.expander.proofs.writing.write_condition.Goals as goal
 
 pub returns : goal.returns
-returns c =
-    let f = c in
-    wrote-two f.requires.0 f.write_step.ensures f.write_step-2.ensures
+returns c = wrote-two c.requires.0 c.write_step.ensures c.write_step-2.ensures (omega arith) c.after.ensures.step

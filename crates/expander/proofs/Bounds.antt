@@ -1,0 +1,70 @@
+-- Where the parts of a record end and how many nodes and steps it has, for the arithmetic of the functions that expand it.
+-- Assumes nothing.
+use Prim.Native.Nat.{ℕ, ◌+◌, ◌≤◌, ◌<◌}
+use mathlib.Core.Path.{◌≡◌, refl, sym, ◌∙◌}
+use mathlib.Core.List.{List}
+use native.Mathlib.Omega.{arith}
+use lib.ListN.{length, take, drop}
+use Rattle.rules.specs.Basics.{number}
+use Rattle.rules.specs.Syntax.{Stmt}
+use Rattle.rules.specs.Reading.{size_of, kind_of}
+use Rattle.rules.specs.Expanding.{made}
+use Rattle.records.specs.Counting.{step_count}
+use Rattle.records.specs.Acceptance.{Good}
+use Rattle.records.proofs.Goods.{sized, else-tree, for-tree, if-tree, while-tree}
+use Rattle.expander.proofs.Counts.{size_is, kind-is, made-few}
+use Rattle.expander.proofs.Fits.{else-made, else-steps, for-made, for-steps}
+
+pub makes_few : (t : Stmt) → made t < step_count t
+makes_few = made-few
+
+-- of a record whose length and kind were read
+module _ {s : List ℕ} (a : Good s) where
+  pub good_length : 4 ≤ length s
+  good_length = let x = sized refl a in omega (arith, x.0, x.1)
+
+  pub record_fits : (4 ≤ number (take 2 (drop 0 s))) × (number (take 2 (drop 0 s)) ≤ length s)
+  record_fits = sized (size_is s refl) a
+
+  pub if_fits :
+      number (take 2 (drop 2 s)) ≡ 33 →
+      (8 ≤ number (take 2 (drop 0 s))) × (4 + number (take 2 (drop 4 s)) ≤ number (take 2 (drop 0 s)))
+  if_fits k = let x = if-tree (size_is s refl) a (sym (kind-is s refl) ∙ k) _ refl in (x.eight, x.fits)
+
+  pub while_fits :
+      number (take 2 (drop 2 s)) ≡ 35 →
+      (8 ≤ number (take 2 (drop 0 s))) × (4 + number (take 2 (drop 4 s)) ≤ number (take 2 (drop 0 s)))
+  while_fits k = let x = while-tree (size_is s refl) a (sym (kind-is s refl) ∙ k) _ refl in (x.eight, x.fits)
+
+-- of an if-else
+module _ {s : List ℕ} (a : Good s) (k : kind_of s ≡ 34) where
+  pub else_first : (8 ≤ size_of s) × (size_of s ≤ length s) × (4 + number (take 2 (drop 4 s)) + 4 ≤ size_of s)
+  else_first = let x = else-tree refl a k _ _ refl refl in (x.eight, (sized refl a).1, x.mid)
+
+  pub else_fits : 4 + number (take 2 (drop 4 s)) + number (take 2 (drop (4 + number (take 2 (drop 4 s))) s)) ≤ size_of s
+  else_fits = (else-tree refl a k _ _ refl refl).fits
+
+  pub else_makes : (2 ≤ made a.tree) × (2 ≤ step_count a.tree)
+  else_makes = let x = else-tree refl a k _ _ refl refl in (omega (arith, else-made x), omega (arith, else-steps x))
+
+-- of a for
+module _ {s : List ℕ} (a : Good s) (k : kind_of s ≡ 36) where
+  pub for_first : (8 ≤ size_of s) × (size_of s ≤ length s) × (4 + number (take 2 (drop 4 s)) + 4 ≤ size_of s)
+  for_first = let x = for-tree refl a k _ _ _ refl refl refl in (x.eight, (sized refl a).1, x.second)
+
+  pub for_third : 4 + number (take 2 (drop 4 s)) + number (take 2 (drop (4 + number (take 2 (drop 4 s))) s)) + 4 ≤ size_of s
+  for_third = (for-tree refl a k _ _ _ refl refl refl).third
+
+  pub for_fits :
+      (q p : ℕ) → q ≡ number (take 2 (drop 4 s)) → p ≡ number (take 2 (drop (4 + q) s)) →
+      4 + q + p + number (take 2 (drop (4 + q + p) s)) ≤ size_of s
+  for_fits q p hq hp = (for-tree refl a k q p _ hq hp refl).fits
+
+  pub for_makes : (3 ≤ made a.tree) × (4 ≤ step_count a.tree)
+  for_makes = let x = for-tree refl a k _ _ _ refl refl refl in (omega (arith, for-made x), omega (arith, for-steps x))
+
+pub ruleset statement_bounds = (makes_few, good_length, record_fits, if_fits, while_fits)
+
+pub ruleset else_bounds = (else_first, else_fits, else_makes)
+
+pub ruleset for_bounds = (for_first, for_third, for_fits, for_makes)
