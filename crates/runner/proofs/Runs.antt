@@ -1,22 +1,23 @@
 -- An accepted file as the functions that go by its tree have it, and what starting and calling are once their parts are known.
 -- Assumes nothing.
-use Prim.Native.Nat.{ℕ, ◌+◌, ◌≤◌}
+use Prim.Native.Nat.{ℕ, ◌+◌, ◌≤◌, ◌<◌}
 use mathlib.Core.Path.{◌≡◌, refl, sym, ap, subst, ◌∙◌}
 use mathlib.Core.Bool.{Bool, true, false, ◌&&◌}
 use mathlib.Core.List.{List, [], ◌∷◌}
 use mathlib.Core.Option.{Option, none, some}
 use native.Mathlib.Omega.{arith}
-use lib.ListN.{length}
+use lib.ListN.{length, get_or}
 use Rattle.rules.specs.declared.Call.{Call}
 use Rattle.rules.specs.declared.Fields.{Fields}
 use Rattle.rules.specs.declared.Machine.{Machine}
 use Rattle.rules.specs.declared.Outcome.{Outcome}
 use Rattle.rules.specs.declared.State.{State}
-use Rattle.rules.specs.Basics.{first_of, is_none}
+use Rattle.rules.specs.Basics.{first_of, is_none, sum, most32}
 use Rattle.rules.specs.Syntax.{Stmt, Transition, Agreement}
 use Rattle.rules.specs.Accepting.{refusal}
-use Rattle.rules.specs.Running.{Setting, after, guarded, statement}
-use Rattle.rules.specs.Calling.{End, ends_in, call_tests, opening_state, no_call, entered, started, called, refused_call, start_setting, call_setting, start_by, call_by}
+use Rattle.rules.specs.declared.Setting.{Setting}
+use Rattle.rules.specs.Running.{after, guarded, statement}
+use Rattle.rules.specs.Calling.{End, ends_in, call_tests, opening_state, no_call, total, entered, started, called, refused_call, start_setting, call_setting, start_by, call_by}
 use Rattle.rules.specs.Calling.{run_initial, run_by, known, transition_of, start_tree, call_tree}
 use Rattle.totals.proofs.Trees.{tree-good}
 use Rattle.records.specs.Acceptance.{Good}
@@ -27,8 +28,6 @@ use Rattle.machine.proofs.States.{opening-total}
 use Rattle.machine.proofs.Calls.{first-refused, tests-passed, elsewhere-refused, call-runs, Enters, enters, passed-enters}
 use Rattle.access.specs.Trees.{AcceptedFile}
 use Rattle.access.proofs.Using.{ActionAt, FoundAt}
-use Rattle.actions.specs.declared.Frame.{Frame}
-use Rattle.actions.specs.Frames.{Framed}
 use Rattle.runner.specs.Transitions.{Moves}
 
 -- ---- an accepted file
@@ -37,15 +36,14 @@ use Rattle.runner.specs.Transitions.{Moves}
 pub accounts-few : {file : List ℕ} (a : AcceptedFile file) {f : Fields} → f ≡ a.tree.fields → f.accounts ≤ 8
 accounts-few {file} a e = omega (arith, ap (λ (f : Fields). f.accounts) e, (tree-good file a.tree a.is).tree.fields.few-accounts)
 
--- and as a frame has it
-pub few-accounts :
-    {file : List ℕ} (a : AcceptedFile file) {c : Setting} {frame : Frame} {arguments : List ℕ} → c.fields ≡ a.tree.fields → Framed c frame arguments →
-    frame.accounts ≤ 8
-few-accounts a e h = omega (arith, h.accounts, accounts-few a e)
-
 -- an action at its offset, in the bytes that the code passes on
 pub standing : {file : List ℕ} {at : ℕ} {tree : Stmt} → ActionAt file at tree → (g : Good (from at file)) × (g.tree ≡ tree)
 standing {file} {at} x = let w = x.good (from at file) (from-drop at file) in (w.0, w.2)
+
+-- what entering asks for
+pub asked : {s : State} {k : Call} → Enters s k → (k.sender < 8) × (k.coins ≤ get_or s.balances k.sender 0) × (sum s.balances + s.own ≤ most32)
+unfolding total
+asked e = (e.sender, e.coins, e.small)
 
 -- ---- starting
 
@@ -59,10 +57,10 @@ start-enters {file} a {f} {k} {s} e i j =
     enters s k (start-full a e j) (rw i (omega arith)) (rw i (omega arith)) (rw (j, opening-total f, e) (tree-good file a.tree a.is).opening-fits)
 
 pub start_is :
-    (a : Agreement) {f : Fields} {k : Call} {s : State} {m : Machine} → f ≡ a.fields → k ≡ no_call → s ≡ opening_state f → m ≡ entered k s →
-    started (ends_in f.start (statement (record { fields = f; before = f.start; call = k }) a.initial m)) ≡ start_tree a
+    (a : Agreement) {f : Fields} {k : Call} {s : State} {m : Machine} {b : ℕ} → f ≡ a.fields → b ≡ f.start → k ≡ no_call → s ≡ opening_state f → m ≡ entered k s →
+    started (ends_in b (statement (record { fields = f; before = b; call = k }) a.initial m)) ≡ start_tree a
 unfolding start_tree start_by run_initial start_setting
-start_is a e i j h = rw (h, j, i, e)
+start_is a e q i j h = rw (h, j, i, q, e)
 
 pub no-and : (b : Bool) → (b && false) ≡ false
 no-and true = refl

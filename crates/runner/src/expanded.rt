@@ -2,8 +2,6 @@
 ghost use Rattle.std.specs.Prelude.{◌≡◌};
 ghost use Rattle.rules.specs.Stepping.{start_expanded, call_expanded};
 ghost use Rattle.expansion.specs.Writing.{HasSteps};
-ghost use Rattle.walker.specs.Tables.{Expanded, Tabled};
-ghost use Rattle.runner.specs.Tables.{start_in, call_in};
 
 use crate::Prepared;
 use crate::steps::{call_prepared, start_prepared};
@@ -11,15 +9,16 @@ use access::fields::fields;
 use expansion::comparing::is_expansion;
 use machine::outcomes::{is_unknown_sender, refusal, refused_call, refused_start};
 use reader::read;
-use rules::{Call, Counted, Outcome, State};
+use rules::{Call, Outcome, State};
 use walker::index::{index_entries, index_nodes};
+use walker::steps::Steps;
 
 pub fn start_expanded(file: &[u8], words: &[u32]) -> Outcome
     ensures { result ≡ start_expanded file.now words.now }
 {
     match read(file) {
-        Counted::Steps(n) => start_lent(file, words, n as usize),
-        Counted::Refused(r) => refused_start(r, 0),
+        Ok(n) => start_lent(file, words, n as usize),
+        Err(r) => refused_start(r, 0),
     }
 }
 
@@ -35,39 +34,49 @@ fn start_lent(file: &[u8], words: &[u32], steps: usize) -> Outcome
         return refused_start(refusal(12), 0);
     }
     let nodes = index_nodes(words, steps);
-    start_prepared(file, words, &nodes, fields(file))
+    start_prepared(&Steps {
+        file,
+        words,
+        nodes: &nodes,
+        fields: fields(file),
+    })
 }
 
 pub fn call_expanded(file: &[u8], words: &[u32], s: State, k: Call) -> Outcome
     ensures { result ≡ call_expanded file.now words.now s k }
 {
     match read(file) {
-        Counted::Steps(n) => call_lent(file, words, n as usize, s, k),
-        Counted::Refused(r) => refused_call(r, 0, s),
+        Ok(n) => call_lent(file, words, n as usize, &s, &k),
+        Err(r) => refused_call(r, 0, s),
     }
 }
 
 // Refusals 9, 11 and 12, in this order.
-fn call_lent(file: &[u8], words: &[u32], steps: usize, s: State, k: Call) -> Outcome
+fn call_lent(file: &[u8], words: &[u32], steps: usize, s: &State, k: &Call) -> Outcome
     requires { HasSteps file.now steps }
-    ensures { result ≡ call_expanded file.now words.now s k }
+    ensures { result ≡ call_expanded file.now words.now s.now k.now }
 {
-    let f = fields(file);
-    if is_unknown_sender(f, k) {
-        return refused_call(refusal(9), 0, s);
+    let fields = fields(file);
+    if is_unknown_sender(&fields, k) {
+        return refused_call(refusal(9), 0, *s);
     }
     if words.len() < 5 * steps {
-        return refused_call(refusal(11), 0, s);
+        return refused_call(refusal(11), 0, *s);
     }
     if !is_expansion(file, steps, words) {
-        return refused_call(refusal(12), 0, s);
+        return refused_call(refusal(12), 0, *s);
     }
     let nodes = index_nodes(words, steps);
-    let e = index_entries(words, steps);
-    let places = e.places;
-    let p = Prepared {
-        fields: f,
-        entries: e.count,
+    let entries = index_entries(words, steps);
+    let steps = Steps {
+        file,
+        words,
+        nodes: &nodes,
+        fields,
     };
-    call_prepared(file, words, &nodes, &places, p, s, k)
+    let p = Prepared {
+        steps,
+        entries: &entries,
+    };
+    call_prepared(&p, s, k)
 }

@@ -2,42 +2,43 @@
 ghost use Rattle.std.specs.Prelude.{◌≡◌};
 ghost use Rattle.rules.specs.Accepting.{read_file, expand_file};
 ghost use Rattle.rules.specs.Answers.{read_numbers, counted_numbers};
-ghost use Rattle.rules.specs.Exported.{StartHands, CallHands, StartExpandedHands, CallExpandedHands};
+ghost use Rattle.rules.specs.Exported.{Handed, StartHands, CallHands, StartExpandedHands, CallExpandedHands};
 
 use crate::expanded::{call_expanded, start_expanded};
 use crate::layout::{answer_words, state_from, state_words};
 use crate::unexpanded::{call, start};
 use expansion::expand;
 use reader::read;
-use rules::{Call, Counted, Outcome};
+use rules::{Call, Outcome};
 
 // The refusal's number (0: accepted) and its place.
+#[tactic(auto, unfolding(rules::specs::Answers::read_numbers))]
 pub fn agreement_read(file: &[u8], answer: &mut [u32; 2])
     ensures { answer.new ≡ read_numbers (read_file file.now) }
 {
     match read(file) {
-        Counted::Steps(_) => {
-            *answer = [0, 0];
-        }
-        Counted::Refused(r) => {
-            *answer = [r.number as u32, r.place];
-        }
+        Ok(_) => *answer = [0, 0],
+        Err(r) => *answer = [u32::from(r.number), r.place],
     }
 }
 
 // The refusal's number (0: completed), its place, and the step count; the steps in the words.
+#[tactic(auto, unfolding(rules::specs::Answers::counted_numbers))]
 pub fn agreement_expand(file: &[u8], words: &mut [u32], answer: &mut [u32; 3])
     ensures answer_after { answer.new ≡ counted_numbers (expand_file file.now words.old).answer }
     ensures words_after { words.new ≡ (expand_file file.now words.old).words }
 {
     match expand(file, words) {
-        Counted::Steps(n) => {
-            *answer = [0, 0, n];
-        }
-        Counted::Refused(r) => {
-            *answer = [r.number as u32, r.place, 0];
-        }
+        Ok(n) => *answer = [0, 0, n],
+        Err(r) => *answer = [u32::from(r.number), r.place, 0],
     }
+}
+
+fn hand_over(o: &Outcome, state: &mut [u32; 26], answer: &mut [u32; 5])
+    ensures { Handed o.now state.new answer.new }
+{
+    *state = state_words(&o.state);
+    *answer = answer_words(&o.answer);
 }
 
 // Of the four functions below the answer is the refusal's number (0: completed), its place, whether there is a returned value
@@ -45,11 +46,7 @@ pub fn agreement_expand(file: &[u8], words: &mut [u32], answer: &mut [u32; 3])
 pub fn agreement_start(file: &[u8], state: &mut [u32; 26], answer: &mut [u32; 5])
     ensures { StartHands file.now state.new answer.new }
 {
-    let o = start(file);
-    let a = o.answer;
-    let s = o.state;
-    *state = state_words(s);
-    *answer = answer_words(a);
+    hand_over(&start(file), state, answer);
 }
 
 pub fn agreement_call(
@@ -71,11 +68,8 @@ pub fn agreement_call(
         coins,
         arguments: *arguments,
     };
-    let o = call(file, state_from(*state), k);
-    let a = o.answer;
-    let s = o.state;
-    *state = state_words(s);
-    *answer = answer_words(a);
+    let o = call(file, state_from(state), k);
+    hand_over(&o, state, answer);
 }
 
 pub fn agreement_start_expanded(
@@ -86,11 +80,7 @@ pub fn agreement_start_expanded(
 )
     ensures { StartExpandedHands file.now words.now state.new answer.new }
 {
-    let o = start_expanded(file, words);
-    let a = o.answer;
-    let s = o.state;
-    *state = state_words(s);
-    *answer = answer_words(a);
+    hand_over(&start_expanded(file, words), state, answer);
 }
 
 pub fn agreement_call_expanded(
@@ -113,9 +103,6 @@ pub fn agreement_call_expanded(
         coins,
         arguments: *arguments,
     };
-    let o = call_expanded(file, words, state_from(*state), k);
-    let a = o.answer;
-    let s = o.state;
-    *state = state_words(s);
-    *answer = answer_words(a);
+    let o = call_expanded(file, words, state_from(state), k);
+    hand_over(&o, state, answer);
 }

@@ -1,11 +1,12 @@
-// State records and answers as the exported interface has them: 26 words and 5 words.
+// State records and answers as the exported interface has them: 26 words and 5 words. Functions, and no `From`: the types are of
+// another crate.
 ghost use Rattle.std.specs.Prelude.{◌≡◌};
-ghost use Rattle.rules.specs.Answers.{value_numbers, answer_numbers, state_numbers, state_from};
+ghost use Rattle.rules.specs.Answers.{answer_numbers, state_numbers, state_from};
 
-use rules::{Answer, Returned, State};
+use rules::{Answer, State};
 
-pub fn state_from(words: [u32; 26]) -> State
-    ensures { result ≡ state_from words }
+pub fn state_from(words: &[u32; 26]) -> State
+    ensures { result ≡ state_from words.now }
 {
     State {
         state: words[0],
@@ -20,8 +21,8 @@ pub fn state_from(words: [u32; 26]) -> State
     }
 }
 
-pub fn state_words(s: State) -> [u32; 26]
-    ensures { result ≡ state_numbers s }
+pub fn state_words(s: &State) -> [u32; 26]
+    ensures { result ≡ state_numbers s.now }
 {
     let v = s.variables;
     let b = s.balances;
@@ -31,21 +32,13 @@ pub fn state_words(s: State) -> [u32; 26]
     ]
 }
 
-// Whether there is a returned value, that value or 0, and the units.
-fn completed_words(v: Returned, units: u32) -> [u32; 5]
-    ensures { result ≡ answer_numbers (Answer.Completed v units) }
+#[tactic(auto, unfolding(rules::specs::Answers::answer_numbers, rules::specs::Answers::value_numbers))]
+pub fn answer_words(answer: &Answer) -> [u32; 5]
+    ensures { result ≡ answer_numbers answer.now }
 {
-    match v {
-        Returned::NoValue => [0, 0, 0, 0, units],
-        Returned::Given(x) => [0, 0, 1, x, units],
-    }
-}
-
-pub fn answer_words(answer: Answer) -> [u32; 5]
-    ensures { result ≡ answer_numbers answer }
-{
-    match answer {
-        Answer::Completed(v, units) => completed_words(v, units),
-        Answer::Refused(r, units) => [r.number as u32, r.place, 0, 0, units],
+    match *answer {
+        Answer::Completed(None, units) => [0, 0, 0, 0, units],
+        Answer::Completed(Some(x), units) => [0, 0, 1, x, units],
+        Answer::Refused(r, units) => [u32::from(r.number), r.place, 0, 0, units],
     }
 }

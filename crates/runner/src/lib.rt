@@ -8,11 +8,15 @@ pub mod layout;
 pub mod steps;
 pub mod unexpanded;
 
-use rules::Fields;
+ghost use Rattle.walker.specs.Tables.{EntriesIn};
 
-// What a call on the expanded form goes by beside the index: the agreement's fields and the number of its kind 1 steps.
+use walker::entries::Entries;
+use walker::steps::Steps;
+
+// What a call on the expanded form goes by: the steps, and the places of the kind 1 steps among them.
 #[derive(Clone, Copy)]
-pub struct Prepared {
-    pub fields: Fields,
-    pub entries: usize,
+pub struct Prepared<'s, 'e> {
+    pub steps: Steps<'s>,
+    pub entries: &'e Entries,
+    pub ghost entered: { EntriesIn steps.file.now steps.words.now entries.now },
 }

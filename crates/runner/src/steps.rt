@@ -1,26 +1,24 @@
-// Starting and calling on the expanded form, once it is known that the lent words begin with the file's expansion and what is
-// looked up in its steps was found. For our own crates only: a caller has to see all of that, and can do it once for many calls.
-ghost use Rattle.std.specs.Prelude.{ℕ, List, ◌≡◌, eqb, if◌then◌else◌};
+// Starting and calling on the expanded form, once the steps and their entries were found. For our own crates only: a caller can do
+// that once for many calls.
+ghost use Rattle.std.specs.Prelude.{◌≡◌, eqb, if◌then◌else◌};
 ghost use Rattle.rules.specs.Expanding.{expansion};
-ghost use Rattle.rules.specs.Calling.{entered as entered_of};
+ghost use Rattle.rules.specs.Calling.{outcome};
 ghost use Rattle.rules.specs.Stepping.{entry_of};
-ghost use Rattle.machine.specs.Calls.{state_of, outcome_in, Passed, Fits};
+ghost use Rattle.machine.specs.Runs.{ran, Funded};
+ghost use Rattle.machine.specs.Calls.{Passed, Fits};
 ghost use Rattle.walker.specs.Tables.{Expanded, EntryFound};
-ghost use Rattle.walker.specs.Runs.{reached_in, reached_of, walk_by_in};
-ghost use Rattle.runner.specs.Tables.{Walks, Ready, start_in, call_in};
+ghost use Rattle.walker.specs.Runs.{run_of, walk_by_in};
+ghost use Rattle.runner.specs.Tables.{start_in, call_in};
 
 use crate::Prepared;
-use crate::accepted::frame_of;
-use machine::Called;
+use access::Found;
+use machine::Stop;
 use machine::outcomes::{
-    called, first_refusal, gathered, is_unknown_sender, no_call, refusal, refused_call, started,
-    unmoved,
+    called, first_refusal, is_unknown_sender, lacks_coins, no_call, refusal, refused_call, started,
 };
 use machine::state::{entered, opening_state};
-use rules::{Call, Fields, Outcome, State};
-use walker::lookup::find_entry;
-use walker::walk::{enter, walk};
-use walker::{Arrival, Entry};
+use rules::{Answer, Call, Machine, Outcome, Setting, State};
+use walker::steps::Steps;
 
 // The node that a run has reached becomes the state; the fallback's end, which is S, keeps the state of before.
 fn settle(states: u32, before: u32, node: u32) -> u32
@@ -29,187 +27,89 @@ fn settle(states: u32, before: u32, node: u32) -> u32
     if node == states { before } else { node }
 }
 
-pub fn start_prepared(file: &[u8], words: &[u32], nodes: &[u32; 1091], f: Fields) -> Outcome
-    requires { Walks file.now words.now nodes.now f }
-    ensures { (a : Expanded file.now words.now) → result ≡ start_in file.now a.tree }
+pub fn start_prepared(steps: &Steps<'_>) -> Outcome
+    ensures { (a : Expanded steps.now.file.now steps.now.words.now) → result ≡ start_in steps.now.file.now a.tree }
 {
-    let k = no_call();
-    let s = opening_state(f);
-    let mut variables = s.variables;
-    let mut locals = [0u32; 8];
-    let mut balances = s.balances;
-    let n = entered(k, s.own, &mut balances);
-    let start = f.start as u32;
-    let frame = frame_of(f, start, k);
-    let arguments = k.arguments;
-    let states = f.states as u32;
-    let r = walk(
-        file,
-        words,
-        nodes,
-        states,
-        states + 2,
-        &mut variables,
-        &mut locals,
-        &mut balances,
-        n,
-        frame,
-        &arguments,
-    );
-    let p = r.progress;
-    started(settle(states, start, r.node), variables, balances, p)
+    let states = u32::from(steps.fields.states);
+    let before = u32::from(steps.fields.start);
+    let call = no_call();
+    let mut m = entered(&call, &opening_state(&steps.fields));
+    let setting = Setting {
+        fields: steps.fields,
+        before,
+        call,
+    };
+    match steps.walk(states + 2, &mut m, &setting) {
+        Ok(node) => started(settle(states, before, node), &m, Ok(())),
+        Err(stop) => started(before, &m, Err(stop)),
+    }
 }
 
 // Refusals 9, 20 and 21 come before the name is looked for.
-pub fn call_prepared(
-    file: &[u8],
-    words: &[u32],
-    nodes: &[u32; 1091],
-    places: &[u32; 1024],
-    p: Prepared,
-    s: State,
-    k: Call,
-) -> Outcome
-    requires { Ready file.now words.now nodes.now places.now p }
-    ensures { (a : Expanded file.now words.now) → result ≡ call_in file.now a.tree s k }
+pub fn call_prepared(p: &Prepared<'_, '_>, s: &State, k: &Call) -> Outcome
+    ensures { (a : Expanded p.now.steps.file.now p.now.steps.words.now) → result ≡ call_in p.now.steps.file.now a.tree s.now k.now }
 {
-    let f = p.fields;
-    let n = first_refusal(f, s, k);
-    if 0 < n {
-        return refused_call(refusal(n), 0, s);
-    }
-    let mut variables = s.variables;
-    let mut balances = s.balances;
-    let c = call_passed(
-        file,
-        words,
-        nodes,
-        places,
-        p,
-        s,
-        &mut variables,
-        &mut balances,
-        k,
-    );
-    gathered(c, variables, balances)
-}
-
-// A call on a record that is known to fit, as is every record that a completed start and calls after it lead to: it is not tested
-// for refusal 20 again. The record's arrays are lent; a refused call leaves them as they were.
-pub fn call_fitting(
-    file: &[u8],
-    words: &[u32],
-    nodes: &[u32; 1091],
-    places: &[u32; 1024],
-    p: Prepared,
-    state: u32,
-    own: u32,
-    variables: &mut [u32; 16],
-    balances: &mut [u32; 8],
-    k: Call,
-) -> Called
-    requires { Ready file.now words.now nodes.now places.now p × Fits p.fields (state_of state own variables.old balances.old) }
-    ensures { (a : Expanded file.now words.now) → outcome_in variables.new balances.new result
-        ≡ call_in file.now a.tree (state_of state own variables.old balances.old) k }
-{
-    let f = p.fields;
-    if is_unknown_sender(f, k) {
-        return unmoved(9, state, own);
-    }
-    let i = k.sender as usize;
-    if balances[i] < k.coins {
-        return unmoved(21, state, own);
-    }
-    let v = *variables;
-    let b = *balances;
-    let s = State {
-        state,
-        variables: v,
-        balances: b,
-        own,
-    };
-    call_passed(file, words, nodes, places, p, s, variables, balances, k)
-}
-
-// Refusal 22, or the run from what was found of the name. The lent arrays are those of the record.
-fn call_passed(
-    file: &[u8],
-    words: &[u32],
-    nodes: &[u32; 1091],
-    places: &[u32; 1024],
-    p: Prepared,
-    s: State,
-    variables: &mut [u32; 16],
-    balances: &mut [u32; 8],
-    k: Call,
-) -> Called
-    requires { Ready file.now words.now nodes.now places.now p × Passed p.fields s k
-        × (variables.old ≡ s.variables) × (balances.old ≡ s.balances) }
-    ensures { (a : Expanded file.now words.now) → outcome_in variables.new balances.new result
-        ≡ call_in file.now a.tree s k }
-{
-    let f = p.fields;
-    let e = find_entry(words, places, p.entries, k.name, s.state);
-    match e {
-        Entry::Elsewhere => unmoved(22, s.state, s.own),
-        _ => {
-            let r = run(file, words, nodes, f, e, s, variables, balances, k);
-            let states = f.states as u32;
-            let q = r.progress;
-            called(s, settle(states, s.state, r.node), variables, balances, q)
+    match first_refusal(&p.steps.fields, s, k) {
+        Some(number) => refused_call(refusal(number), 0, *s),
+        None => {
+            let mut state = *s;
+            let answer = call_passed(p, &mut state, k);
+            Outcome { answer, state }
         }
     }
 }
 
-// The run of a call: from the guard's step where one was found, else from the fallback's entry.
-fn run(
-    file: &[u8],
-    words: &[u32],
-    nodes: &[u32; 1091],
-    f: Fields,
-    e: Entry,
-    s: State,
-    variables: &mut [u32; 16],
-    balances: &mut [u32; 8],
-    k: Call,
-) -> Arrival
-    requires { Walks file.now words.now nodes.now f × Passed f s k × (variables.old ≡ s.variables) × (balances.old ≡ s.balances)
-        × ((a : Expanded file.now words.now) → EntryFound (expansion a.tree) k.name s.state e) }
-    ensures { (a : Expanded file.now words.now) → (ls : List ℕ) × (reached_in variables.new ls balances.new result
-        ≡ reached_of (walk_by_in file.now a.tree (record { fields = f; before = s.state; call = k })
-        (entry_of (expansion a.tree) k.name s.state) (entered_of k s))) }
+// A call on a record that is known to fit, as is every record that a completed start and calls after it lead to: it is not tested
+// for refusal 20 again. A refused call leaves the record as it was.
+pub fn call_fitting(p: &Prepared<'_, '_>, s: &mut State, k: &Call) -> Answer
+    requires { Fits p.now.steps.fields s.old }
+    ensures { (a : Expanded p.now.steps.file.now p.now.steps.words.now) →
+        outcome result s.new ≡ call_in p.now.steps.file.now a.tree s.old k.now }
 {
-    let n = entered(k, s.own, balances);
-    let mut locals = [0u32; 8];
-    let frame = frame_of(f, s.state, k);
-    let arguments = k.arguments;
-    let states = f.states as u32;
-    match e {
-        Entry::At(i) => enter(
-            file,
-            words,
-            nodes,
-            states,
-            i,
-            variables,
-            &mut locals,
-            balances,
-            n,
-            frame,
-            &arguments,
-        ),
-        _ => walk(
-            file,
-            words,
-            nodes,
-            states,
-            states + 1,
-            variables,
-            &mut locals,
-            balances,
-            n,
-            frame,
-            &arguments,
-        ),
+    if is_unknown_sender(&p.steps.fields, k) {
+        return Answer::Refused(refusal(9), 0);
+    }
+    if lacks_coins(s, k) {
+        return Answer::Refused(refusal(21), 0);
+    }
+    call_passed(p, s, k)
+}
+
+// Refusal 22, or the run from what was found of the name.
+fn call_passed(p: &Prepared<'_, '_>, s: &mut State, k: &Call) -> Answer
+    requires { Passed p.now.steps.fields s.old k.now }
+    ensures { (a : Expanded p.now.steps.file.now p.now.steps.words.now) →
+        outcome result s.new ≡ call_in p.now.steps.file.now a.tree s.old k.now }
+{
+    let found = p.steps.find_entry(p.entries, k.name, s.state);
+    if let Found::Elsewhere = found {
+        return Answer::Refused(refusal(22), 0);
+    }
+    let mut m = entered(k, s);
+    let setting = Setting {
+        fields: p.steps.fields,
+        before: s.state,
+        call: *k,
+    };
+    match run(&p.steps, found, &mut m, &setting) {
+        Ok(node) => {
+            let state = settle(u32::from(setting.fields.states), setting.before, node);
+            called(s, state, &m, Ok(()))
+        }
+        Err(stop) => called(s, setting.before, &m, Err(stop)),
+    }
+}
+
+// The run of a call: from the guard's step where one was found, else from the fallback's entry.
+fn run(steps: &Steps<'_>, found: Found, m: &mut Machine, setting: &Setting) -> Result<u32, Stop>
+    requires { Funded setting.now.fields.accounts m.old × ((a : Expanded steps.now.file.now steps.now.words.now) →
+        (setting.now.fields ≡ a.tree.fields) × EntryFound (expansion a.tree) setting.now.call.name setting.now.before found) }
+    ensures { (a : Expanded steps.now.file.now steps.now.words.now) → ran result m.new
+        ≡ run_of (walk_by_in steps.now.file.now a.tree setting.now
+        (entry_of (expansion a.tree) setting.now.call.name setting.now.before) m.old) }
+{
+    match found {
+        Found::At(place) => steps.enter(place, m, setting),
+        _ => steps.walk(u32::from(setting.fields.states) + 1, m, setting),
     }
 }

@@ -5,14 +5,14 @@ ghost use Rattle.rules.specs.Calling.{start as start_of, call as call_of};
 use crate::accepted::{call_accepted, start_accepted};
 use machine::outcomes::{refused_call, refused_start};
 use reader::read;
-use rules::{Call, Counted, Outcome, State};
+use rules::{Call, Outcome, State};
 
 pub fn start(file: &[u8]) -> Outcome
     ensures { result ≡ start_of file.now }
 {
     match read(file) {
-        Counted::Steps(_) => start_accepted(file),
-        Counted::Refused(r) => refused_start(r, 0),
+        Ok(_) => start_accepted(file),
+        Err(r) => refused_start(r, 0),
     }
 }
 
@@ -20,7 +20,7 @@ pub fn call(file: &[u8], s: State, k: Call) -> Outcome
     ensures { result ≡ call_of file.now s k }
 {
     match read(file) {
-        Counted::Steps(_) => call_accepted(file, s, k),
-        Counted::Refused(r) => refused_call(r, 0, s),
+        Ok(_) => call_accepted(file, &s, &k),
+        Err(r) => refused_call(r, 0, s),
     }
 }

@@ -1,9 +1,9 @@
 -- What a step does to a run, and how a run goes on after it.
 -- Assumes nothing.
 use Rattle.std.specs.Prelude.{if◌then◌else◌}
-use Prim.Native.Nat.{ℕ, zero, suc, ◌+◌, ◌-◌, ◌≤◌, ◌<◌}
-use mathlib.Core.Path.{◌≡◌, refl, sym, ap, subst, ◌∙◌}
-use mathlib.Core.Bool.{Bool, true, false, false≢true}
+use Prim.Native.Nat.{ℕ, ◌≤◌, ◌<◌}
+use mathlib.Core.Path.{◌≡◌, refl, sym, subst}
+use mathlib.Core.Bool.{Bool, true, false}
 use mathlib.Core.List.{List}
 use mathlib.Core.Option.{Option, none, some}
 use native.Mathlib.Omega.{arith}
@@ -14,73 +14,37 @@ use Rattle.rules.specs.declared.Machine.{Machine}
 use Rattle.rules.specs.Basics.{choose}
 use Rattle.rules.specs.Syntax.{Expr, Simple}
 use Rattle.rules.specs.Expanding.{Step}
-use Rattle.rules.specs.Running.{Setting, Run, going, returned, stopped, perform, condition, guarded}
+use Rattle.rules.specs.declared.Setting.{Setting}
+use Rattle.rules.specs.Running.{Run, going, returned, stopped, perform, condition, guarded}
 use Rattle.rules.specs.Calling.{End, ended, halted, leads}
-use Rattle.rules.specs.Stepping.{Records, leaving, step_from, target_in, with, onward, admitted, decided, performed, advance, taken, walk, walk_from, walk_by}
-use Rattle.machine.specs.Flows.{How, Flow, Tested, Going, Returned, Stopped, is_going, how_of, flow_of, tested_of}
-use Rattle.machine.proofs.Codes.{stopped_code}
+use Rattle.rules.specs.Stepping.{Records, leaving, step_from, target_in, with, onward, admitted, decided, performed, advance, taken, walk, walk_from}
+use Rattle.machine.specs.declared.Stop.{Stop}
+use Rattle.machine.specs.declared.Stop.TheVariants.{Returned, GuardFalse, GuardFailed, ActionFailed, UnitsUsedUp}
+use Rattle.machine.specs.Runs.{stopped_by}
 use Rattle.machine.proofs.Keeping.{Kept, Keeps, kept_same, Room, perform-keeps, condition-keeps}
 use Rattle.forms.proofs.Choosing.{if-all}
 use Rattle.forms.proofs.Units.{Way, goes, Later, Costs, way_of, perform-costs, condition-costs}
 use Rattle.forms.proofs.Endings.{walk_more}
-use Rattle.walker.specs.Runs.{Reached, reached_of, toward}
+use Rattle.walker.specs.Runs.{run_of}
 
 -- ---- ends as the code has them
 
--- a refusal by its code; one that an action ended in; and an action that goes on or has returned
-pub code-halts : (k : ℕ) (m : Machine) → record { node = 0; flow = record { how = how_of (2 + k); machine = m } } ≡ reached_of (halted k m)
-unfolding reached_of
-code-halts k m =
-    let e : (2 + k) - 2 ≡ k = omega arith in
-    ap (λ (h : How). record { node = 0; flow = record { how = h; machine = m } }) (stopped_code (2 + k) (omega arith) ∙ ap Stopped e)
+-- a run that stopped is no run that goes on, and its end is no node
+pub not_going : {A : Type 0} (e : Stop) (m : Machine) {a : A} {w : Machine} → stopped_by e m ≡ going a w → ⊥
+not_going Returned m h = cc
+not_going GuardFalse m h = cc
+not_going GuardFailed m h = cc
+not_going ActionFailed m h = cc
+not_going UnitsUsedUp m h = cc
 
-pub code_stays : (n k : ℕ) (m : Machine) → 1 < k → record { node = 0; flow = record { how = how_of k; machine = m } } ≡ toward n (how_of k) m
-unfolding toward reached_of
-code_stays n zero m h = absurd (omega arith)
-code_stays n (suc zero) m h = absurd (omega arith)
-code_stays n (suc (suc k)) m h = refl
+pub reached-goes : (x : End) {n : ℕ} {m : Machine} → going n m ≡ run_of x → x ≡ ended n m
+reached-goes (ended n m) h = cc
+reached-goes (halted k m) h = cc
 
-pub code-leads : (n k : ℕ) (m : Machine) → k ≤ 1 → reached_of (ended n m) ≡ toward n (how_of k) m
-unfolding toward
-code-leads n zero m h = refl
-code-leads n (suc zero) m h = refl
-code-leads n (suc (suc k)) m h = absurd (omega arith)
-
-how-of : {r s : Reached} → r ≡ s → {b : Bool} → is_going r.flow.how ≡ b → is_going s.flow.how ≡ b
-how-of e h = sym (ap (λ (x : Reached). is_going x.flow.how) e) ∙ h
-
-pub reached-goes : (e : End) (r : Reached) → r ≡ reached_of e → is_going r.flow.how ≡ true → e ≡ ended r.node r.flow.machine
-unfolding reached_of
-reached-goes (ended n m) r e h = rw e
-reached-goes (halted k m) r e h = absurd (false≢true (how-of e h))
-
-pub reached-stops : (e : End) (r : Reached) (g : ℕ → Machine → End) → r ≡ reached_of e → is_going r.flow.how ≡ false → r ≡ reached_of (onward g e)
-unfolding reached_of onward
-reached-stops (ended n m) r g e h = absurd (false≢true (sym (how-of e h)))
-reached-stops (halted k m) r g e h = e
-
-pub toward-machine : (n : ℕ) (h : How) (m : Machine) → (toward n h m).flow.machine ≡ m
-unfolding toward reached_of
-toward-machine n Going m = refl
-toward-machine n Returned m = refl
-toward-machine n (Stopped k) m = refl
-
-pub flow-toward : (x : Run (Unit {0})) (f : Flow) (n : ℕ) → f ≡ flow_of x → toward n f.how f.machine ≡ reached_of (leads (λ _. n) n x)
-unfolding toward leads flow_of
-flow-toward (going u m) f n e = rw e
-flow-toward (returned m) f n e = rw e
-flow-toward (stopped k m) f n e = rw e
-
-holds_of : {t u : Tested} → t ≡ u → {b : Bool} → t.holds ≡ b → u.holds ≡ b
-holds_of e h = sym (ap (λ (x : Tested). x.holds) e) ∙ h
-
--- of a condition that holds, and of one that does not
-pub test-toward : (x : Run Bool) (t : Tested) (d : Bool → ℕ) (n : ℕ) → t ≡ tested_of x → t.holds ≡ true → toward (d true) t.how t.machine ≡ reached_of (leads d n x)
-unfolding toward leads tested_of
-test-toward (going true m) t d n e h = rw e
-test-toward (going false m) t d n e h = absurd (false≢true (holds_of e h))
-test-toward (returned m) t d n e h = absurd (false≢true (holds_of e h))
-test-toward (stopped k m) t d n e h = absurd (false≢true (holds_of e h))
+pub reached-stops : (x : End) (e : Stop) (w : Machine) (g : ℕ → Machine → End) → stopped_by e w ≡ run_of x → stopped_by e w ≡ run_of (onward g x)
+unfolding onward
+reached-stops (ended n m) e w g h = absurd (not_going e w h)
+reached-stops (halted k m) e w g h = h
 
 four-to-seven : (P : ℕ → Type 0) (k : ℕ) → 4 ≤ k → k ≤ 7 → P 4 → P 5 → P 6 → P 7 → P k
 four-to-seven P k l u a b c d = by 4 a λ x. by 5 b λ y. by 6 c λ z. subst P (omega arith) d
@@ -93,13 +57,20 @@ four-to-seven P k l u a b c d = by 4 a λ x. by 5 b λ y. by 6 c λ z. subst P (
         go false e = other (eqb-false k n e)
 
 module _ (c : Setting) where
-  pub test-toward-not : (m : Machine) (x : Run Bool) (t : Tested) (d : Bool → ℕ) (n : ℕ) → Costs c 1 goes m x → t ≡ tested_of x → t.holds ≡ false
-      → toward (d false) t.how t.machine ≡ reached_of (leads d n x)
-  unfolding toward leads tested_of
-  test-toward-not m (going true v) t d n k e h = absurd (false≢true (sym (holds_of e h)))
-  test-toward-not m (going false v) t d n k e h = rw e
-  test-toward-not m (returned v) t d n k e h = absurd k.0
-  test-toward-not m (stopped i v) t d n k e h = rw e
+  -- a run that goes on or is refused, and stopped so, is refused so
+  pub stops-so : {A : Type 0} (m : Machine) (x : Run A) (e : Stop) (w : Machine) (d : A → ℕ) (t : ℕ) → Costs c 1 goes m x → stopped_by e w ≡ x
+      → stopped_by e w ≡ run_of (leads d t x)
+  unfolding leads
+  stops-so m (going a v) e w d t k h = absurd (not_going e w h)
+  stops-so m (returned v) e w d t k h = absurd k.0
+  stops-so {A} m (stopped i v) e w d t k h = refused e h
+    where
+      refused : (e : Stop) → stopped_by {A = A} e w ≡ stopped i v → stopped_by {A = ℕ} e w ≡ stopped i v
+      refused Returned h = cc
+      refused GuardFalse h = cc
+      refused GuardFailed h = cc
+      refused ActionFailed h = cc
+      refused UnitsUsedUp h = cc
 
   -- ---- one step
 
@@ -169,19 +140,13 @@ module _ (c : Setting) where
     step-keeping s m q =
         step-all (Keeping m) s m (kept_same limit m) (λ e d t. leads-keeping m d t _ (condition-keeps c e m q)) (λ x t. leads-keeping m _ t _ (perform-keeps c x m q))
 
-    -- the same of what the code has
-    pub step_keeps : (s : Step) (m : Machine) (r : Reached) → Room c.fields.accounts m → r ≡ reached_of (advance records f steps c s m) → Kept limit m r.flow.machine
-    unfolding reached_of
-    step_keeps s m r q e = go (advance records f steps c s m) e (step-keeping s m q)
-      where
-        go : (x : End) → r ≡ reached_of x → Keeping m x → Kept limit m r.flow.machine
-        go (ended n v) e h = rw e h
-        go (halted k v) e h = rw e h
+    -- the same where the step leads on
+    pub step_keeps : (s : Step) (m : Machine) {n : ℕ} {w : Machine} → Room c.fields.accounts m → going n w ≡ run_of (advance records f steps c s m) → Kept limit m w
+    step_keeps s m q e = subst (Keeping m) (reached-goes _ e) (step-keeping s m q)
 
-    pub step-costs : (s : Step) (m : Machine) (r : Reached) → r ≡ reached_of (advance records f steps c s m) → is_going r.flow.how ≡ true
-        → (m.units < limit) × (m.units < r.flow.machine.units)
-    step-costs s m r e h =
-        let k = subst (Charged m) (reached-goes _ r e h) (step-charged s m) in
+    pub step-costs : (s : Step) (m : Machine) {n : ℕ} {w : Machine} → going n w ≡ run_of (advance records f steps c s m) → (m.units < limit) × (m.units < w.units)
+    step-costs s m e =
+        let k = subst (Charged m) (reached-goes _ e) (step-charged s m) in
         (omega (arith, k.1), omega (arith, k.0))
 
     -- ---- a step by its kind
@@ -225,36 +190,23 @@ module _ (c : Setting) where
     unfolding walk_from walk taken
     walk_refused n m h e = rw (lt-leb n f.states h, e)
 
-    pub walk-stops : (n : ℕ) (m : Machine) (s : Step) → f.states < n → leaving steps n ≡ some s → {r : Reached}
-        → r ≡ reached_of (advance records f steps c s m) → is_going r.flow.how ≡ false → r ≡ reached_of (walk_from records f steps c n m)
+    pub walk-stops : (n : ℕ) (m : Machine) (s : Step) (e : Stop) (w : Machine) → f.states < n → leaving steps n ≡ some s
+        → stopped_by e w ≡ run_of (advance records f steps c s m) → stopped_by e w ≡ run_of (walk_from records f steps c n m)
     unfolding walk_from walk taken
-    walk-stops n m s h e i g = rw (lt-leb n f.states h, e) (reached-stops _ _ _ i g)
-
-    -- by the kind 1 step, and then from where it leads
-    pub by-stops : (s : Step) (m : Machine) {r : Reached} → r ≡ reached_of (admitted records f steps c s m) → is_going r.flow.how ≡ false
-        → r ≡ reached_of (walk_by records f steps c (some s) m)
-    unfolding walk_by
-    by-stops s m i g = reached-stops _ _ _ i g
-
-    pub by-goes : (s : Step) (m : Machine) {r : Reached} → r ≡ reached_of (admitted records f steps c s m) → is_going r.flow.how ≡ true
-        → walk_by records f steps c (some s) m ≡ walk_from records f steps c r.node r.flow.machine
-    unfolding walk_by onward
-    by-goes s m {r} i g = rw (reached-goes _ r i g)
+    walk-stops n m s e w h l i = rw (lt-leb n f.states h, l) (reached-stops _ e w _ i)
 
   module _ (records : Records) (steps : List Step) where
     -- a run goes on as one from the node that a step leads to
     abbrev Goes : Fields → Type 0
     Goes f =
-        (n : ℕ) (m : Machine) (s : Step) → f.states < n → leaving steps n ≡ some s → (r : Reached)
-        → r ≡ reached_of (advance records f steps c s m) → is_going r.flow.how ≡ true
-        → walk_from records f steps c n m ≡ walk_from records f steps c r.node r.flow.machine
+        (n : ℕ) (m : Machine) (s : Step) → f.states < n → leaving steps n ≡ some s → (k : ℕ) (w : Machine)
+        → going k w ≡ run_of (advance records f steps c s m) → walk_from records f steps c n m ≡ walk_from records f steps c k w
 
     own-goes : Goes c.fields
     unfolding walk_from walk taken onward
-    own-goes n m s h e r i g =
-        let k = step-costs records c.fields steps s m r i g in
-        rw (lt-leb n c.fields.states h, e, reached-goes _ r i g)
-        (sym (walk_more c records steps limit r.node r.flow.machine (omega arith) (omega arith)))
+    own-goes n m s h e k w i =
+        let u = step-costs records c.fields steps s m i in
+        rw (lt-leb n c.fields.states h, e, reached-goes _ i) (sym (walk_more c records steps limit k w (omega arith) (omega arith)))
 
     pub walk-goes : (f : Fields) → c.fields ≡ f → Goes f
     walk-goes f e = subst Goes e own-goes

@@ -9,15 +9,15 @@ use mathlib.Core.Option.{none}
 use native.Mathlib.Omega.{arith}
 use native.Mathlib.Numerals.{add-one}
 use lib.Dec.{eqb}
-use lib.ListN.{length, get_or, take, drop, length-take, drop_of_length-le}
-use lib.Seq.{drop-cons, get_or-take}
+use lib.ListN.{length, get_or, drop, drop_of_length-le}
+use lib.Seq.{drop-cons}
 use borrow.Author.Tests.{eqb-true, eq-eqb, ne_eqb}
 use Rattle.rules.specs.Basics.{any, find}
 use Rattle.rules.specs.Expanding.{Step, table}
 use Rattle.rules.specs.Stepping.{begins_with, entry_of, entry_known}
 use Rattle.rules.specs.Demands.{All}
-use Rattle.walker.specs.Tables.{word_at, step_at, guard_places, Entered, EntryFound}
-use Rattle.walker.specs.declared.Entry.TheVariants.{At}
+use Rattle.walker.specs.Tables.{word_at, step_at, guard_places, EntryFound}
+use Rattle.access.specs.declared.Found.TheVariants.{At}
 use Rattle.walker.proofs.Tables.{Here, step-here, here-at}
 
 -- the steps are those in the words from the i-th on
@@ -114,14 +114,11 @@ module _ (words : List ℕ) (steps : List Step) where
           found = find-guards words _ (fits name n) (λ s e. rw e) (λ s e. rw e) 0 steps stands;
         }
 
-    pub place : (places : List ℕ) (count : ℕ) → Entered steps places count → count ≤ length places → (i : ℕ) → i < count → Place i (get_or places i 0)
-    place places count en full i lt =
-        let d : drop i (take count places) ≡ get_or (take count places) i 0 ∷ drop (suc i) (take count places) =
-        drop-cons (take count places) i 0 (omega (arith, length-take count places)) in
-        let e : drop i (guard_places 0 steps) ≡ get_or places i 0 ∷ drop (suc i) (guard_places 0 steps) =
-        rw (← en.are, ← get_or-take count places i 0 lt) d in
+    pub place : (entries : List ℕ) → entries ≡ guard_places 0 steps → (i : ℕ) → i < length entries → Place i (get_or entries i 0)
+    place entries are i lt =
+        let e : drop i (guard_places 0 steps) ≡ get_or entries i 0 ∷ drop (suc i) (guard_places 0 steps) = rw (← are) (drop-cons entries i 0 lt) in
         let q = all-at _ i _ _ _ (guard-places words 0 steps stands) e in
-        record { here = step-here words steps begins (get_or places i 0) (omega (arith, q.0)); guard = q.1; next = e }
+        record { here = step-here words steps begins (get_or entries i 0) (omega (arith, q.0)); guard = q.1; next = e }
 
   module _ {i p : ℕ} (h : Place i p) (b : Bool) (name n : ℕ) (left : Left b name n (drop i (guard_places 0 steps))) where
     after : drop i (guard_places 0 steps) ≡ p ∷ drop (i + 1) (guard_places 0 steps)
@@ -149,9 +146,9 @@ module _ (words : List ℕ) (steps : List Step) where
         }
 
   pub found-end :
-      (places : List ℕ) (count : ℕ) → Entered steps places count → (i : ℕ) → count ≤ i → (b : Bool) (name n : ℕ) → Left b name n (drop i (guard_places 0 steps)) →
+      (entries : List ℕ) → entries ≡ guard_places 0 steps → (i : ℕ) → length entries ≤ i → (b : Bool) (name n : ℕ) → Left b name n (drop i (guard_places 0 steps)) →
       (entry_known steps name ≡ b) × (entry_of steps name n ≡ none)
   unfolding find any
-  found-end places count en i le b name n left =
-      let z : drop i (guard_places 0 steps) ≡ [] = drop_of_length-le (guard_places 0 steps) {i = i} (omega (arith, ap length en.are, length-take count places)) in
+  found-end entries are i le b name n left =
+      let z : drop i (guard_places 0 steps) ≡ [] = drop_of_length-le (guard_places 0 steps) {i = i} (omega (arith, ap length are)) in
       (left.known ∙ rw z (or-false b), left.found ∙ rw z)

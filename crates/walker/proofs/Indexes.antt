@@ -33,14 +33,14 @@ index-none k i steps h n = zeros k n ∙ sym (rw (drop_of_length-le steps {i = i
 
 pub index-more :
     {words : List ℕ} {steps : List Step} {i j o : ℕ} (nodes : List ℕ) → Here words steps j → i ≡ suc j → o ≡ word_at words j 0 → o < length nodes →
-    IndexedFrom i steps nodes → IndexedFrom j steps (set nodes o i)
+    IndexedFrom i steps nodes → IndexedFrom j steps (set nodes o (j + 1))
 unfolding place_from
 index-more {words} {steps} {i} {j} {o} nodes h e q low f n = go (eqb o n) refl
   where
-    go : (b : Bool) → eqb o n ≡ b → get_or (set nodes o i) n 0 ≡ place_from j (drop j steps) n
+    go : (b : Bool) → eqb o n ≡ b → get_or (set nodes o (j + 1)) n 0 ≡ place_from j (drop j steps) n
     go true p =
-        ap (λ (n : ℕ). get_or (set nodes o i) n 0) (sym (eqb-true o n p)) ∙ get_or-set_same nodes o i 0 low ∙ rw (h.here, ← q, p) e
-    go false p = get_or-set_other nodes o n i 0 (λ z. eqb-false o n p (sym z)) ∙ f n ∙ rw (h.here, ← q, p, e)
+        ap (λ (n : ℕ). get_or (set nodes o (j + 1)) n 0) (sym (eqb-true o n p)) ∙ get_or-set_same nodes o (j + 1) 0 low ∙ rw (h.here, ← q, p) (add-one j)
+    go false p = get_or-set_other nodes o n (j + 1) 0 (λ z. eqb-false o n p (sym z)) ∙ f n ∙ rw (h.here, ← q, p, e)
 
 pub index-all : (steps : List Step) (nodes : List ℕ) {i : ℕ} → i ≡ 0 → length nodes ≡ 1091 → IndexedFrom i steps nodes → Indexed steps nodes
 index-all steps nodes e l f = record { full = l; has = λ n. f n ∙ ap (λ (i : ℕ). place_from i (drop i steps) n) e }
@@ -62,9 +62,6 @@ module _ {words : List ℕ} {steps : List Step} {i : ℕ} (h : Here words steps 
   pub entries-other : (word_at words i 2 ≡ 1 → ⊥) → EnteredTo (i + 1) steps places count
   unfolding guard_places
   entries-other e = f ∙ rw (h.here, ne_eqb _ _ e, add-one)
-
-pub entries_none : (steps : List Step) (places : List ℕ) → EnteredTo 0 steps places 0
-entries_none steps places = refl
 
 pub entries-all : (steps : List Step) (places : List ℕ) (count i : ℕ) → length steps ≤ i → EnteredTo i steps places count → take count places ≡ guard_places 0 steps
 unfolding guard_places

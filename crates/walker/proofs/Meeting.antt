@@ -19,7 +19,7 @@ use Rattle.records.proofs.Parts.{from-length}
 use Rattle.forms.proofs.Accepted.{file-good}
 use Rattle.access.proofs.Using.{accepted-read, tree-bounds, same-accepted}
 use Rattle.actions.proofs.Offsets.{expr-at, simple-at}
-use Rattle.walker.specs.Runs.{Ready, Enterable}
+use Rattle.walker.specs.Runs.{Ready}
 use Rattle.walker.specs.Tables.{Expanded, word_at, step_at, place_from, GuardAt}
 use Rattle.walker.proofs.Tables.{Here, step-here, at_here, at-below, drop-below}
 use Rattle.walker.proofs.Shape.{Shaped, end, guard, one, two, expansion-shaped}
@@ -32,10 +32,6 @@ same-tree a b = same-accepted (record { tree = a.tree; is = a.is }) (record { tr
 -- a step that is ready is so for every tree of the file
 pub first_of : {file words : List ℕ} {i : ℕ} (r : Ready file words i) (a : Expanded file words) → place_from 0 (expansion a.tree) r.node ≡ suc i
 first_of {i = i} r a = subst (λ (t : Agreement). place_from 0 (expansion t) r.node ≡ suc i) (same-tree r.expanded a) r.first
-
--- and so is a kind 1 step
-pub entry_of : {file words nodes : List ℕ} {states place : ℕ} (e : Enterable file words nodes states place) (a : Expanded file words) → GuardAt (expansion a.tree) place e.step
-entry_of {place = place} e a = subst (λ (t : Agreement). GuardAt (expansion t) place e.step) (same-tree e.walkable.expanded a) e.entry
 
 -- an expression, and a statement of one step, in the bytes from an offset on
 pub record ExprFrom (file : List ℕ) (tree : Expr) (at : ℕ) : Type 0 where
@@ -58,6 +54,13 @@ pub record SimpleAt (file : List ℕ) (vars at : ℕ) : Type 0 where
   pub tree : Simple
   pub reads : simple_at file vars at ≡ some tree
   pub stands : SimpleFrom file tree at
+
+-- and at an offset that was read of its words
+pub expr-from : {file : List ℕ} {vars at k : ℕ} → k ≡ at → (x : ExprAt file vars at) → ExprFrom file x.tree k
+expr-from {file} is x = subst (ExprFrom file x.tree) (sym is) x.stands
+
+pub simple-from : {file : List ℕ} {vars at k : ℕ} → k ≡ at → (x : SimpleAt file vars at) → SimpleFrom file x.tree k
+simple-from {file} is x = subst (SimpleFrom file x.tree) (sym is) x.stands
 
 -- a kind 1 step has its guard
 guard-record : {file : List ℕ} {vars : ℕ} {l : List Step} → Shaped file vars l → (i : ℕ) {s : Step} → get_elem? l i ≡ some s → s.kind ≡ 1

@@ -1,13 +1,13 @@
 -- Lent words that begin with the expansion of an accepted file, and what is looked up in its steps.
-use Rattle.std.specs.Prelude.{ℕ, suc, ◌+◌, ◌*◌, ◌≤◌, ◌≡◌, true, false, List, [], ◌∷◌, eqb, length, get_or, take, if◌then◌else◌}
+use Rattle.std.specs.Prelude.{ℕ, suc, ◌+◌, ◌*◌, ◌≡◌, true, false, List, [], ◌∷◌, eqb, length, get_or, if◌then◌else◌}
 use Rattle.std.proofs.Math.Option.{none, some}
 use Rattle.std.proofs.Math.ListN.{get_elem?}
 use Rattle.rules.specs.Syntax.{Agreement}
 use Rattle.rules.specs.Expanding.{Step, step, expansion, table}
 use Rattle.rules.specs.Accepting.{good, file_of}
 use Rattle.rules.specs.Stepping.{begins_with, entry_of, entry_known}
-use Rattle.walker.specs.declared.Entry.{Entry}
-use Rattle.walker.specs.declared.Entry.TheVariants.{Unknown, Elsewhere, At}
+use Rattle.access.specs.declared.Found.{Found}
+use Rattle.access.specs.declared.Found.TheVariants.{Unknown, Elsewhere, At}
 
 -- the file is accepted and the words begin with its expansion
 pub record Expanded (file words : List ℕ) : Type 0 where
@@ -47,17 +47,9 @@ unfoldable pub guard_places : (i : ℕ) → List Step → List ℕ
 guard_places i [] = []
 guard_places i (s ∷ l) = if eqb s.kind 1 then i ∷ guard_places (suc i) l else guard_places (suc i) l
 
--- a list begins with them, and they are so many
-pub record Entered (steps : List Step) (places : List ℕ) (count : ℕ) : Type 0 where
-  pub full : length places ≡ 1024
-  pub few : count ≤ 1024
-  pub are : take count places ≡ guard_places 0 steps
-
--- the words begin with an expansion, and these are the places of its kind 1 steps
-pub record Listed (words places : List ℕ) (count : ℕ) : Type 0 where
-  pub file : List ℕ
-  pub expanded : Expanded file words
-  pub entered : Entered (expansion expanded.tree) places count
+-- these are the places of the kind 1 steps of the file's expansion, with which the words begin
+abbrev pub EntriesIn : (file words entries : List ℕ) → Type 0
+EntriesIn file words entries = (a : Expanded file words) → entries ≡ guard_places 0 (expansion a.tree)
 
 -- a kind 1 step at its place
 pub record GuardAt (steps : List Step) (place : ℕ) (s : Step) : Type 0 where
@@ -65,7 +57,7 @@ pub record GuardAt (steps : List Step) (place : ℕ) (s : Step) : Type 0 where
   pub guard : s.kind ≡ 1
 
 -- what is found of a call's name and state
-abbrev pub EntryFound : List Step → (name state : ℕ) → Entry → Type 0
+abbrev pub EntryFound : List Step → (name state : ℕ) → Found → Type 0
 EntryFound steps name n Unknown = (entry_known steps name ≡ false) × (entry_of steps name n ≡ none)
 EntryFound steps name n Elsewhere = (entry_known steps name ≡ true) × (entry_of steps name n ≡ none)
 EntryFound steps name n (At i) = (s : Step) × GuardAt steps i s × (entry_of steps name n ≡ some s)

@@ -2,24 +2,23 @@
 // with an expansion of so many steps.
 ghost use Rattle.std.specs.Prelude.{List, ◌≡◌, ℕ, length};
 ghost use Rattle.rules.specs.Expanding.{expansion};
-ghost use Rattle.walker.specs.Tables.{Expanded, Tabled, Indexed, Entered};
+ghost use Rattle.walker.specs.Tables.{Expanded, Tabled, Indexed, guard_places};
 
-use crate::Entries;
-use crate::words::{KIND, ORIGIN, wide, word};
+use crate::entries::Entries;
+use crate::words::step_at;
+use expander::StepKind;
 
-// For each node 1 + the place of the first step that leaves it, or 0 where none does. The last step goes first, so that the first
-// of those that leave a node stays.
+// For each node 1 + the place of the first step that leaves it, or 0 where none does: one word a node, and no
+// option, which would take two. The last step goes first, so that the first of those that leave a node stays.
 pub fn index_nodes(words: &[u32], steps: usize) -> [u32; 1091]
     requires { Tabled words.now steps }
     ensures { (file : List ℕ) (a : Expanded file words.now) → steps ≡ length (expansion a.tree) →
         Indexed (expansion a.tree) result }
 {
-    let mut nodes = [0u32; 1091];
-    let mut i = steps;
-    while 0 < i {
-        let origin = wide(word(words, i - 1, ORIGIN));
-        nodes[origin] = i as u32;
-        i -= 1;
+    let mut nodes = [0; 1091];
+    for i in (0..steps).rev() {
+        let origin = step_at(words, i).origin as usize;
+        nodes[origin] = i as u32 + 1;
     }
     nodes
 }
@@ -28,17 +27,15 @@ pub fn index_nodes(words: &[u32], steps: usize) -> [u32; 1091]
 pub fn index_entries(words: &[u32], steps: usize) -> Entries
     requires { Tabled words.now steps }
     ensures { (file : List ℕ) (a : Expanded file words.now) → steps ≡ length (expansion a.tree) →
-        Entered (expansion a.tree) result.places result.count }
+        result ≡ guard_places 0 (expansion a.tree) }
 {
-    let mut places = [0u32; 1024];
+    let mut places = [0; 1024];
     let mut count = 0;
-    let mut i = 0;
-    while i < steps {
-        if word(words, i, KIND) == 1 {
+    for i in 0..steps {
+        if step_at(words, i).kind == StepKind::Guard as u32 {
             places[count] = i as u32;
             count += 1;
         }
-        i += 1;
     }
     Entries { places, count }
 }

@@ -1,29 +1,27 @@
-// The words of steps. For our own crates only: a caller has to see that the words hold the step.
-ghost use Rattle.std.specs.Prelude.{◌≡◌, ◌+◌, ◌*◌, ◌<◌, length};
-ghost use Rattle.walker.specs.Tables.{word_at};
+// The steps in lent words, five words each. For our own crates only: a caller has to see that the words hold the step.
+ghost use Rattle.std.specs.Prelude.{◌+◌, ◌*◌, ◌≤◌, length};
+ghost use Rattle.walker.specs.Words.{Holds};
 
-// The order of a step's words.
-pub const ORIGIN: usize = 0;
-
-pub const TARGET: usize = 1;
-
-pub const KIND: usize = 2;
-
-pub const NAME: usize = 3;
-
-pub const AT: usize = 4;
-
-// The k-th word of the i-th step.
-pub fn word(words: &[u32], i: usize, k: usize) -> u32
-    requires { 5 * i + k < length words.now }
-    ensures { result ≡ word_at words.now i k }
-{
-    words[5 * i + k]
+#[derive(Clone, Copy)]
+pub struct Step {
+    pub origin: u32,
+    pub target: u32,
+    pub kind: u32,
+    pub name: u32,
+    pub at: u32,
 }
 
-// A word, as wide as an offset.
-pub fn wide(x: u32) -> usize
-    ensures { result ≡ x }
+// The i-th step. What a caller leaves unread is not loaded.
+pub fn step_at(words: &[u32], i: usize) -> Step
+    requires { 5 * i + 5 ≤ length words.now }
+    ensures { Holds words.now i result }
 {
-    x as usize
+    let first = 5 * i;
+    Step {
+        origin: words[first],
+        target: words[first + 1],
+        kind: words[first + 2],
+        name: words[first + 3],
+        at: words[first + 4],
+    }
 }

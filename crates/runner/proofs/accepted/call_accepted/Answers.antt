@@ -1,25 +1,22 @@
 -- `call_accepted` meets its contract, by the tests that come before the name is looked for.
-use mathlib.Core.Path.{◌∙◌}
-use native.Mathlib.Omega.{arith}
-use Rattle.machine.proofs.Calls.{first-passed, numbered-some, numbered-none}
+use mathlib.Core.Path.{sym}
+use Rattle.machine.proofs.Calls.{first-passed}
 use Rattle.access.proofs.Using.{tree_of}
 use Rattle.runner.proofs.Runs.{accounts-few, call-refused, tree-call}
 use Rattle.runner.proofs.accepted.call_accepted.Goals as goal
 
-pub fields-f-requires : goal.fields-f-requires
-fields-f-requires c = tree_of c.requires
+pub fields-fields-requires : goal.fields-fields-requires
+fields-fields-requires c = tree_of c.requires
 
-pub first_refusal-n-requires : goal.first_refusal-n-requires
-first_refusal-n-requires c = accounts-few c.requires (c.fields-f.ensures (tree_of c.requires))
+pub first_refusal-requires : goal.first_refusal-requires
+first_refusal-requires c = accounts-few c.requires (c.fields-fields.ensures (tree_of c.requires))
 
-pub returns-then-n-gt0 : goal.returns-then-n-gt0
-returns-then-n-gt0 c = λ a.
-    let s = c.args in
-    let n = c.first_refusal-n.result in
+pub returns-in-Some : goal.returns-in-Some
+returns-in-Some c = λ a.
+    let s = c.args.s.now in
+    let k = c.args.k.now in
     rw (c.refused_call.ensures, c.refusal.ensures)
-    (call-refused (c.fields-f.ensures (tree_of a)) s.s s.k _ _ (tree-call a.tree s.s s.k) n (c.first_refusal-n.ensures ∙ numbered-some n c.if-n-gt0.true))
+    (call-refused (c.fields-fields.ensures (tree_of a)) s k _ _ (tree-call a.tree s k) c.in-Some.number (sym c.in-Some.ensures))
 
 pub call_passed-requires : goal.call_passed-requires
-call_passed-requires c =
-    let n = c.first_refusal-n.result in
-    (c.requires, λ a. c.fields-f.ensures (tree_of a), first-passed _ _ _ (c.first_refusal-n.ensures ∙ numbered-none n (omega arith)))
+call_passed-requires c = (c.requires, λ a. c.fields-fields.ensures (tree_of a), first-passed _ _ _ (sym c.in-None.ensures))

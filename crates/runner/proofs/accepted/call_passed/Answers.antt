@@ -1,21 +1,17 @@
 -- `call_passed` meets its contract, by what is found of the name.
-use mathlib.Core.Path.{sym, subst, ◌∙◌}
+use mathlib.Core.Path.{◌≡◌, sym, subst, ◌∙◌}
 use native.Mathlib.Omega.{arith}
-use Rattle.rules.specs.Calling.{total}
-use Rattle.machine.specs.Flows.{Funded}
+use lib.ListN.{length}
+use Rattle.machine.specs.Runs.{Funded}
 use Rattle.machine.proofs.Calls.{enters-funded}
-use Rattle.machine.proofs.Lengths.{state-lengths}
 use Rattle.access.proofs.Using.{ActionAt, fallback-at, find_at, find-elsewhere, find-unknown, tree_of}
-use Rattle.runner.proofs.Runs.{standing, few-accounts, moves, call_enters, tree-elsewhere, tree-unknown, tree-found}
+use Rattle.runner.proofs.Runs.{standing, accounts-few, asked, moves, call_enters, tree-elsewhere, tree-unknown, tree-found}
 use Rattle.runner.proofs.accepted.call_passed.Goals as goal
 
-pub entered-n-requires : goal.entered-n-requires
-unfolding total
-entered-n-requires c =
+pub entered-m-requires : goal.entered-m-requires
+entered-m-requires c =
     let a = c.requires.0 in
-    let full = (state-lengths c.args.s _ c.well_formed.1.1.0).1 in
-    let e = call_enters a (c.requires.1 a) c.requires.2 full in
-    (e.sender, e.coins, e.small)
+    asked (call_enters a (c.requires.1 a) c.requires.2 (omega arith))
 
 pub layout-l-requires : goal.layout-l-requires
 layout-l-requires c = tree_of c.requires.0
@@ -35,20 +31,19 @@ slice_bounds-run_statement-count c =
     let x : ActionAt c.args.file.now c.layout-l.result.fallback c.requires.0.tree.fallback = fallback-at (record { read = t; out = c.layout-l.ensures t }) t in
     omega (arith, x.fits)
 
-pub run_statement-p-requires : goal.run_statement-p-requires
-run_statement-p-requires c =
+pub run_statement-run-requires : goal.run_statement-run-requires
+run_statement-run-requires c =
     let a = c.requires.0 in
     let t = tree_of a in
-    let full = (state-lengths c.args.s _ c.well_formed.1.1.0).1 in
-    let few = few-accounts a (c.requires.1 a) c.frame_of-frame.ensures in
-    let e = call_enters a (c.requires.1 a) c.requires.2 full in (
+    let f = c.requires.1 a in
+    let full : length c.args.s.now.balances ≡ 8 = omega arith in (
       (standing {tree = a.tree.fallback} (fallback-at (record { read = t; out = c.layout-l.ensures t }) t)).0,
-      subst (Funded c.frame_of-frame.result.accounts) (sym (c.entered-n.ensures _ _)) (enters-funded e few full),
+      subst (Funded c.args.fields.accounts) (sym c.entered-m.ensures) (enters-funded (call_enters a f c.requires.2 full) (accounts-few a f) full),
     )
 
 -- the transition that was found
-pub overflow_add-to : goal.overflow_add-to
-overflow_add-to c =
+pub overflow_add-at : goal.overflow_add-at
+overflow_add-at c =
     let t = tree_of c.requires.0 in
     let x = find_at t _ _ _ (sym c.in-At.is ∙ c.find_transition.ensures t) in
     omega (arith, x.record-at.fits)
@@ -59,37 +54,35 @@ bounds-file-at c =
     let x = find_at t _ _ _ (sym c.in-At.is ∙ c.find_transition.ensures t) in
     omega (arith, x.record-at.fits)
 
-pub run_transition-p-requires : goal.run_transition-p-requires
-run_transition-p-requires c =
+pub run_transition-run-requires : goal.run_transition-run-requires
+run_transition-run-requires c =
     let a = c.requires.0 in
     let t = tree_of a in
-    let full = (state-lengths c.args.s _ c.well_formed.1.1.0).1 in
-    let few = few-accounts a (c.requires.1 a) c.frame_of-frame.ensures in
-    let e = call_enters a (c.requires.1 a) c.requires.2 full in (
+    let f = c.requires.1 a in
+    let full : length c.args.s.now.balances ≡ 8 = omega arith in (
       (moves (find_at t _ _ _ (sym c.in-At.is ∙ c.find_transition.ensures t))).0,
-      subst (Funded c.frame_of-frame.result.accounts) (sym (c.entered-n.ensures _ _)) (enters-funded e few full),
+      subst (Funded c.args.fields.accounts) (sym c.entered-m.ensures) (enters-funded (call_enters a f c.requires.2 full) (accounts-few a f) full),
     )
 
 pub returns-in-Elsewhere : goal.returns-in-Elsewhere
 returns-in-Elsewhere c = λ a.
     let t = tree_of a in
     let e = find-elsewhere t _ _ (sym c.in-Elsewhere.is ∙ c.find_transition.ensures t) in
-    rw (c.refused_call.ensures, c.refusal.ensures) (tree-elsewhere a.tree c.args.s c.args.k (c.requires.1 a) c.requires.2 e.0 e.1)
+    rw (c.refused_call.ensures, c.refusal.ensures) (tree-elsewhere a.tree c.args.s.now c.args.k.now (c.requires.1 a) c.requires.2 e.0 e.1)
 
 pub returns-in-Unknown : goal.returns-in-Unknown
 returns-in-Unknown c = λ a.
     let t = tree_of a in
     let e = find-unknown t _ _ (sym c.in-Unknown.is ∙ c.find_transition.ensures t) in
     let x = standing {tree = a.tree.fallback} (fallback-at (record { read = t; out = c.layout-l.ensures t }) t) in
-    let r = c.run_statement-p.ensures x.0 _ c.frame_of-frame.ensures in
-    c.ended.ensures _ _ (rw x.1 at r)
-    ∙ tree-unknown a.tree c.args.s c.args.k (c.requires.1 a) c.requires.2 e.0 e.1 (c.entered-n.ensures _ _)
+    let r = c.run_statement-run.ensures x.0 in
+    c.ended.ensures ∙ rw (rw x.1 at r) (tree-unknown a.tree c.args.s.now c.args.k.now (c.requires.1 a) c.requires.2 e.0 e.1 c.entered-m.ensures)
 
 pub returns-in-At : goal.returns-in-At
 returns-in-At c = λ a.
     let t = tree_of a in
     let x = find_at t _ _ _ (sym c.in-At.is ∙ c.find_transition.ensures t) in
     let v = moves x in
-    let r = c.run_transition-p.ensures v.0 _ c.frame_of-frame.ensures in
-    c.ended-in-At.ensures _ _ (rw (v.1, v.2) at r)
-    ∙ tree-found a.tree c.args.s c.args.k (c.requires.1 a) c.requires.2 x.transition x.is (c.entered-n.ensures _ _) x.record-at.to
+    let r = c.run_transition-run.ensures v.0 in
+    c.ended-in-At.ensures ∙ rw (rw (v.1, v.2) at r)
+    (tree-found a.tree c.args.s.now c.args.k.now (c.requires.1 a) c.requires.2 x.transition x.is c.entered-m.ensures (x.record-at.to ∙ sym c.from-to.ensures))

@@ -6,8 +6,8 @@ use Rattle.access.proofs.Using.{counted-file, refused-file}
 use Rattle.runner.proofs.expanded.call_expanded.Goals as goal
 
 pub call_lent-requires : goal.call_lent-requires
-call_lent-requires c = counted-file _ _ (sym c.in-Steps.is ∙ c.read.ensures)
+call_lent-requires c = counted-file _ _ (sym c.in-Ok.is ∙ c.read.ensures)
 
-pub returns-in-Refused : goal.returns-in-Refused
+pub returns-in-Err : goal.returns-in-Err
 unfolding call_expanded on_file
-returns-in-Refused c = rw (refused-file _ _ (sym c.in-Refused.is ∙ c.read.ensures)) c.refused_call.ensures
+returns-in-Err c = rw (refused-file _ _ (sym c.in-Err.is ∙ c.read.ensures)) c.refused_call.ensures

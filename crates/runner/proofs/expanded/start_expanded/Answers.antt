@@ -6,8 +6,8 @@ use Rattle.access.proofs.Using.{counted-file, refused-file}
 use Rattle.runner.proofs.expanded.start_expanded.Goals as goal
 
 pub start_lent-requires : goal.start_lent-requires
-start_lent-requires c = counted-file _ _ (sym c.in-Steps.is ∙ c.read.ensures)
+start_lent-requires c = counted-file _ _ (sym c.in-Ok.is ∙ c.read.ensures)
 
-pub returns-in-Refused : goal.returns-in-Refused
+pub returns-in-Err : goal.returns-in-Err
 unfolding start_expanded on_file
-returns-in-Refused c = rw (refused-file _ _ (sym c.in-Refused.is ∙ c.read.ensures)) c.refused_start.ensures
+returns-in-Err c = rw (refused-file _ _ (sym c.in-Err.is ∙ c.read.ensures)) c.refused_start.ensures

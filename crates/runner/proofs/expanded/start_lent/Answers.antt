@@ -26,10 +26,10 @@ index_nodes-nodes-requires c = tabled (beginning c.requires.0 (c.is_expansion.en
 pub fields-requires : goal.fields-requires
 fields-requires c = tree_of c.requires.0
 
-pub start_prepared-requires : goal.start_prepared-requires
-start_prepared-requires c =
+pub invariant_of-start_prepared : goal.invariant_of-start_prepared
+invariant_of-start_prepared c =
     let e = beginning c.requires.0 (c.is_expansion.ensures c.requires.0) c.if-not-is_expansion.false in
-    record { expanded = e; indexed = c.index_nodes-nodes.ensures _ e c.requires.1; fields = c.fields.ensures (tree_of c.requires.0) }
+    record { walkable = ∣ record { expanded = e; indexed = c.index_nodes-nodes.ensures _ e c.requires.1; counts = c.fields.ensures (tree_of c.requires.0) } ∣₁ }
 
 pub returns : goal.returns
 returns c =

@@ -5,15 +5,15 @@ use Rattle.rules.specs.Calling.{start}
 use Rattle.access.proofs.Using.{counted-file, refused-file}
 use Rattle.runner.proofs.unexpanded.start.Goals as goal
 
-pub returns-in-Steps : goal.returns-in-Steps
+pub returns-in-Ok : goal.returns-in-Ok
 unfolding start on_file
-returns-in-Steps c =
-    let a = (counted-file _ _ (sym c.in-Steps.is ∙ c.read.ensures)).0 in
+returns-in-Ok c =
+    let a = (counted-file _ _ (sym c.in-Ok.is ∙ c.read.ensures)).0 in
     rw a.is (c.start_accepted.ensures a)
 
-pub returns-in-Refused : goal.returns-in-Refused
+pub returns-in-Err : goal.returns-in-Err
 unfolding start on_file
-returns-in-Refused c = rw (refused-file _ _ (sym c.in-Refused.is ∙ c.read.ensures)) c.refused_start.ensures
+returns-in-Err c = rw (refused-file _ _ (sym c.in-Err.is ∙ c.read.ensures)) c.refused_start.ensures
 
 pub start_accepted-requires : goal.start_accepted-requires
-start_accepted-requires c = (counted-file _ _ (sym c.in-Steps.is ∙ c.read.ensures)).0
+start_accepted-requires c = (counted-file _ _ (sym c.in-Ok.is ∙ c.read.ensures)).0

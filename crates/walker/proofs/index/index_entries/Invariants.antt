@@ -1,5 +1,5 @@
 -- The first of the places are those of the kind 1 steps before the i-th.
-use Prim.Native.Nat.{ℕ, ◌-◌, ◌≤◌}
+use Prim.Native.Nat.{ℕ, ◌≤◌}
 use mathlib.Core.Path.{◌≡◌}
 use mathlib.Core.List.{List}
 use lib.ListN.{length}
@@ -10,10 +10,6 @@ use Rattle.walker.proofs.index.index_entries.Given as goal
 
 abbrev pub invariant-loop-i : goal.invariant-loop-i
 invariant-loop-i l =
-    (l.i ≤ l.steps)
-    × (l.count ≤ l.i)
+    (l.count ≤ l.i)
     × (length l.places ≡ 1024)
     × ((file : List ℕ) (a : Expanded file l.words) → l.steps ≡ length (expansion a.tree) → EnteredTo l.i (expansion a.tree) l.places l.count)
-
-abbrev pub decreases-loop-i : goal.decreases-loop-i
-decreases-loop-i l = l.steps - l.i

@@ -1,5 +1,5 @@
 -- The steps from the i-th on are in the index.
-use Prim.Native.Nat.{ℕ, ◌≤◌}
+use Prim.Native.Nat.{ℕ}
 use mathlib.Core.Path.{◌≡◌}
 use mathlib.Core.List.{List}
 use lib.ListN.{length}
@@ -10,9 +10,5 @@ use Rattle.walker.proofs.index.index_nodes.Given as goal
 
 abbrev pub invariant-loop-i : goal.invariant-loop-i
 invariant-loop-i l =
-    (l.i ≤ l.steps)
-    × (length l.nodes ≡ 1091)
+    (length l.nodes ≡ 1091)
     × ((file : List ℕ) (a : Expanded file l.words) → l.steps ≡ length (expansion a.tree) → IndexedFrom l.i (expansion a.tree) l.nodes)
-
-abbrev pub decreases-loop-i : goal.decreases-loop-i
-decreases-loop-i l = l.i
