@@ -1,7 +1,8 @@
 -- How a rule stands, one event at a time.
 -- Assumes nothing.
+use Rattle.std.specs.Prelude.{Some}
 use Prim.Native.Nat.{ℕ, suc, zero, ◌-◌, ◌≤◌}
-use mathlib.Core.Path.{◌≡◌, refl, sym, ap, subst₂, ◌∙◌}
+use mathlib.Core.Path.{◌≡◌, refl, sym, ap, subst, subst₂, ◌∙◌}
 use mathlib.Core.Bool.{Bool, true, false, ◌&&◌, ◌||◌}
 use mathlib.Core.Bool
 use mathlib.Core.List.{List, [], ◌∷◌}
@@ -12,14 +13,14 @@ use lib.ListN.{length, get_or, take, drop, length-drop, replicate}
 use lib.Seq.{take_all}
 use native.Mathlib.Omega.{arith}
 use Rattle.rules.specs.declared.State.{State}
-use Rattle.rules.specs.declared.Value.{Value}
-use Rattle.rules.specs.declared.Value.TheVariants.{Is}
+use Rattle.rules.specs.Values.{Value}
 use Rattle.rules.specs.Basics.{any}
 use Rattle.rules.specs.Syntax.{Expr, constant, variable, local, argument, context, binary, not, Rule, always, not_after, only_after}
 use Rattle.rules.specs.Values.{View, on_value, negated, evaluate}
 use Rattle.rules.specs.Judging.{Event, not_true, violated, later, unpreceded, breaks_by}
 use Rattle.records.specs.Acceptance.{Accepted}
-use Rattle.searcher.specs.declared.Judge.{Judge}
+use Rattle.access.specs.declared.RuleAt.{RuleAt}
+use Rattle.access.specs.declared.RuleAt.TheVariants.{Always, NotAfter, OnlyAfter}
 use Rattle.searcher.specs.declared.Status.{Status}
 use Rattle.searcher.specs.Standing.{ExpressionAt, Holds, breaks_after, names}
 
@@ -37,8 +38,8 @@ blank : (v : List ℕ) (own s n m : ℕ) (e : Expr) → evaluate (lent v (replic
 unfolding evaluate
 blank v own s n m (constant x) = refl
 blank v own s n m (variable i) = refl
-blank v own s n m (local i) = ap Is (zeros n i)
-blank v own s n m (argument i) = ap Is (zeros m i)
+blank v own s n m (local i) = ap Some (zeros n i)
+blank v own s n m (argument i) = ap Some (zeros m i)
 blank v own s n m (context i) = refl
 blank v own s n m (binary o l r) = rw (blank v own s n m l, blank v own s n m r)
 blank v own s n m (not e) = ap (on_value negated) (blank v own s n m e)
@@ -63,21 +64,21 @@ module _ (file : List ℕ) (at : ℕ) where
 
 -- ---- a rule by the type that the code holds
 
-module _ (file : List ℕ) (j : Judge) (P : Rule → Type 0) where
-  pub type-one : (rule : Rule) → Holds file rule j → j.kind ≡ 1 → ((e : Expr) → ExpressionAt file j.at e → P (always e)) → P rule
-  type-one (always e) h k f = f e h.1
-  type-one (not_after p q) h k f = absurd (omega (arith, h.0))
-  type-one (only_after p q) h k f = absurd (omega (arith, h.0))
+module _ (file : List ℕ) (r : RuleAt) (P : Rule → Type 0) where
+  pub type-one : (at : ℕ) (rule : Rule) → Holds file rule r → r ≡ Always at → ((e : Expr) → ExpressionAt file at e → P (always e)) → P rule
+  type-one at (always e) h k f = let z : h.0 ≡ at = cc (h.1, k) in f e (subst (λ (n : ℕ). ExpressionAt file n e) z h.2)
+  type-one at (not_after p q) h k f = absurd cc
+  type-one at (only_after p q) h k f = absurd cc
 
-  pub type-two : (rule : Rule) → Holds file rule j → j.kind ≡ 2 → P (not_after j.p j.q) → P rule
-  type-two (always e) h k f = absurd (omega (arith, h.0))
-  type-two (not_after p q) h k f = subst₂ (λ p q. P (not_after p q)) h.1 h.2 f
-  type-two (only_after p q) h k f = absurd (omega (arith, h.0))
+  pub type-two : (p q : ℕ) (rule : Rule) → Holds file rule r → r ≡ NotAfter p q → P (not_after p q) → P rule
+  type-two p q (always e) h k f = absurd (cc (h.1, k))
+  type-two p q (not_after a b) h k f = let y : p ≡ a = cc in let z : q ≡ b = cc in subst₂ (λ p q. P (not_after p q)) y z f
+  type-two p q (only_after a b) h k f = absurd cc
 
-  pub type-three : (rule : Rule) → Holds file rule j → (j.kind ≡ 1 → ⊥) → (j.kind ≡ 2 → ⊥) → P (only_after j.p j.q) → P rule
-  type-three (always e) h k m f = absurd (k h.0)
-  type-three (not_after p q) h k m f = absurd (m h.0)
-  type-three (only_after p q) h k m f = subst₂ (λ p q. P (only_after p q)) h.1 h.2 f
+  pub type-three : (p q : ℕ) (rule : Rule) → Holds file rule r → r ≡ OnlyAfter p q → P (only_after p q) → P rule
+  type-three p q (always e) h k f = absurd (cc (h.1, k))
+  type-three p q (not_after a b) h k f = absurd cc
+  type-three p q (only_after a b) h k f = let y : p ≡ a = cc in let z : q ≡ b = cc in subst₂ (λ p q. P (only_after p q)) y z f
 
 -- ---- how a rule stands at first
 
@@ -86,12 +87,12 @@ pub begins-always : (e : Expr) (s : State) (b : Bool) → b ≡ violated e s →
 unfolding breaks_after breaks_by
 begins-always e s b h es = rw h
 
-pub begins-other : (file : List ℕ) (j : Judge) (rule : Rule) → Holds file rule j → (j.kind ≡ 1 → ⊥) → (s : State) (es : List Event)
+pub begins-other : (file : List ℕ) (r : RuleAt) (rule : Rule) → Holds file rule r → ((at : ℕ) → r ≡ Always at → ⊥) → (s : State) (es : List Event)
     → breaks_after rule (record { broken = false; seen = false }) es ≡ breaks_by rule s es
 unfolding breaks_after breaks_by
-begins-other file j (always e) h k s es = absurd (k h.0)
-begins-other file j (not_after p q) h k s es = refl
-begins-other file j (only_after p q) h k s es = refl
+begins-other file r (always e) h k s es = absurd (k h.0 h.1)
+begins-other file r (not_after p q) h k s es = refl
+begins-other file r (only_after p q) h k s es = refl
 
 -- ---- what an event does to how a rule stands
 

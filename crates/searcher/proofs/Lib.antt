@@ -2,8 +2,8 @@
 pub mod Events
 pub mod Rulings
 pub mod Lists
-pub mod Judges
-pub mod Runs
+pub mod Positions
 pub mod Caching
 pub mod Answers
+pub mod Judges
 pub mod Numbers

@@ -1,4 +1,5 @@
--- What the search goes by, in the terms of document 01's "Rules and verdicts".
+-- What the search goes by, in the terms of the rules' verdicts.
 pub mod Standing
 pub mod Searching
 pub mod Caching
+pub mod Plans

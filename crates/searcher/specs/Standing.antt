@@ -5,7 +5,8 @@ use Rattle.rules.specs.Basics.{any}
 use Rattle.rules.specs.Syntax.{Expr, Rule, always, not_after, only_after}
 use Rattle.rules.specs.Judging.{Event, violated, later, unpreceded}
 use Rattle.records.specs.Acceptance.{Accepted}
-use Rattle.searcher.specs.declared.Judge.{Judge}
+use Rattle.access.specs.declared.RuleAt.{RuleAt}
+use Rattle.access.specs.declared.RuleAt.TheVariants.{Always, NotAfter, OnlyAfter}
 use Rattle.searcher.specs.declared.Status.{Status}
 
 -- an expression's record begins at an offset: s are the bytes from there on
@@ -13,11 +14,11 @@ pub record ExpressionAt (file : List ℕ) (at : ℕ) (e : Expr) : Type 0 where
   pub within : at ≤ length file
   pub accepted : (s : List ℕ) → s ≡ drop at file → (g : Accepted s) × (g.tree ≡ e)
 
--- the rule that a judge holds
-abbrev pub Holds : (file : List ℕ) → Rule → Judge → Type 0
-Holds file (always e) j = (j.kind ≡ 1) × ExpressionAt file j.at e
-Holds file (not_after p q) j = (j.kind ≡ 2) × (j.p ≡ p) × (j.q ≡ q)
-Holds file (only_after p q) j = (j.kind ≡ 3) × (j.p ≡ p) × (j.q ≡ q)
+-- the rule that the code holds
+abbrev pub Holds : (file : List ℕ) → Rule → RuleAt → Type 0
+Holds file (always e) r = (at : ℕ) × (r ≡ Always at) × ExpressionAt file at e
+Holds file (not_after p q) r = r ≡ NotAfter p q
+Holds file (only_after p q) r = r ≡ OnlyAfter p q
 
 abbrev pub names : List Event → List ℕ
 names es = map (λ (v : Event). v.name) es

@@ -1,160 +1,82 @@
 // The cache of a search: the positions from which it has tried all lists of so many rows and found none that breaks the rule, each
-// with the number of those lists. An entry is that number, 0 where the entry is empty, and then a key. For the search alone: a caller
-// has to see that the words of a key can be made (`Keyed`), and that an entry is there.
-ghost use Rattle.std.specs.Prelude.{◌≡◌, true, ◌+◌, ◌*◌, ◌<◌, ◌≤◌, length};
-ghost use Rattle.searcher.specs.Searching.{run_of};
-ghost use Rattle.searcher.specs.Caching.{entry_words, pairs, standing_of, key_of, Keyed, KeyAt, Found, Stored, StoredOrNot};
+// with the number of those lists. For the search alone: a caller has to see that the pair is one of 128.
+ghost use Rattle.std.specs.Prelude.{◌≡◌, ◌<◌, ◌↔◌, IfSome, IsTrue, Contains};
+ghost use Rattle.searcher.specs.Caching.{StoredOrNot};
 
 use crate::{Position, Status};
 use rules::State;
-use runner::layout::state_words;
 
-// The words of a state record (`state_words`). With more of them this number grows, with `record_words`, and `key_of` fills in more.
-const RECORD: usize = 26;
+// The number of the lists of so many rows from a position on, none of which breaks the rule. Where it is 0 the entry is empty; no
+// option, as a cache of zeros is cleared at once.
+#[derive(Clone, Copy)]
+pub struct Entry {
+    pub number: u32,
+    pub left: u8,
+    pub position: Position,
+}
 
-// A key has two words before those of the record: the rows left, and how the rule stands.
-const KEY: usize = RECORD + 2;
+impl Entry {
+    pub const EMPTY: Entry = Entry {
+        number: 0,
+        left: 0,
+        position: Position {
+            state: State {
+                state: 0,
+                variables: [0; 16],
+                balances: [0; 8],
+                own: 0,
+            },
+            status: Status {
+                broken: false,
+                seen: false,
+            },
+        },
+    };
 
-const ENTRY: usize = KEY + 1;
+    fn is_for(&self, left: u8, position: &Position) -> bool
+        ensures { IsTrue result ↔ ((self.now.left ≡ left) × (self.now.position ≡ position.now)) }
+    {
+        self.left == left && self.position == *position
+    }
+}
 
 const PAIRS: usize = 128;
 
-pub const WORDS: usize = 2 * PAIRS * ENTRY;
-
-// The pair of entries for a position, and the number in the position's own entry, 0 where the pair does not have it.
-#[derive(Clone, Copy)]
-pub struct Slot {
-    pub pair: usize,
-    pub number: u32,
-}
-
-fn standing(status: Status) -> u32
-    ensures { result ≡ standing_of status.broken status.seen }
-{
-    if status.broken {
-        if status.seen {
-            return 3;
-        }
-        return 2;
-    }
-    if status.seen {
-        return 1;
-    }
-    0
-}
-
-// All that a search's answer from a position on depends on.
-fn key_of(position: Position, variables: &[u32; 16], balances: &[u32; 8], left: usize) -> [u32; KEY]
-    requires { Keyed left (run_of position variables.now balances.now) }
-    ensures { result ≡ key_of left (run_of position variables.now balances.now) }
-{
-    let words = state_words(State {
-        state: position.state,
-        variables: *variables,
-        balances: *balances,
-        own: position.own,
-    });
-    let mut key = [0u32; KEY];
-    key[0] = left as u32;
-    key[1] = standing(position.status);
-    let mut i = 0;
-    while i < RECORD {
-        key[2 + i] = words[i];
-        i += 1;
-    }
-    key
-}
+pub const ENTRIES: usize = 2 * PAIRS;
 
 fn folded(a: u32, b: u32) -> u32 {
-    a ^ ((b << 16) | (b >> 16))
+    a ^ b.rotate_left(16)
 }
 
-fn mixed(a: u32, b: u32, c: u32, d: u32) -> u64 {
-    (folded(a, b) as u64) * 0x6c07_8965 + (folded(c, d) as u64) * 0x5bd1_e995
+fn mixed(h: u64, a: u32, b: u32, c: u32, d: u32) -> u64 {
+    let four = u64::from(folded(a, b)) * 0x6c07_8965 + u64::from(folded(c, d)) * 0x5bd1_e995;
+    h.rotate_left(11) ^ four
 }
 
-// The pair of entries for a key. Any pair would do, so the contract says no more: the hash only spreads keys over the pairs. It takes
-// four words at a time, and what is left of a key after that would have no part in it.
-fn pair_of(key: &[u32; KEY]) -> usize
-    ensures { result < pairs }
+// The pair of entries for the lists of so many rows from a position on. Any pair would do, so the contract says no more: the hash
+// only spreads positions over the pairs.
+fn pair_of(left: u8, position: &Position) -> usize
+    ensures { result < 128 }
 {
-    let mut h: u64 = 0;
-    let mut i = 0;
-    while i < KEY / 4 {
-        let k = 4 * i;
-        h = ((h << 11) | (h >> 53)) ^ mixed(key[k], key[k + 1], key[k + 2], key[k + 3]);
-        i += 1;
-    }
+    let s = &position.state;
+    let status = 2 * u32::from(position.status.broken) + u32::from(position.status.seen);
+    let v = &s.variables;
+    let b = &s.balances;
+    let mut h = mixed(0, u32::from(left), status, s.state, s.own);
+    h = mixed(h, v[0], v[1], v[2], v[3]);
+    h = mixed(h, v[4], v[5], v[6], v[7]);
+    h = mixed(h, v[8], v[9], v[10], v[11]);
+    h = mixed(h, v[12], v[13], v[14], v[15]);
+    h = mixed(h, b[0], b[1], b[2], b[3]);
+    h = mixed(h, b[4], b[5], b[6], b[7]);
     let x = (h ^ (h >> 32)) % 0x1_0000_0000;
     (x * 0x9e37_79b1 / 0x100_0000) as usize % PAIRS
-}
-
-// Whether the i-th entry has this key. All its words are compared: going on costs less than a branch that is hard to predict.
-fn has_key(cache: &[u32], i: usize, key: &[u32; KEY]) -> bool
-    requires { entry_words * i + entry_words ≤ length cache.now }
-    ensures { result ≡ true → KeyAt cache.now i key.now }
-{
-    let at = ENTRY * i + 1;
-    let mut same = true;
-    let mut k = 0;
-    while k < KEY {
-        if cache[at + k] != key[k] {
-            same = false;
-        }
-        k += 1;
-    }
-    same
-}
-
-// The number of the entry with this key in a pair, where the pair is there and has it, and else 0.
-fn number_in(cache: &[u32], pair: usize, key: &[u32; KEY]) -> u32
-    requires { pair < pairs }
-    ensures { (result ≡ 0 → ⊥) → Found cache.now key.now result }
-{
-    let end = 2 * pair + 2;
-    if cache.len() < ENTRY * end {
-        return 0;
-    }
-    let mut i = 2 * pair;
-    while i < end {
-        if has_key(cache, i, key) {
-            return cache[ENTRY * i];
-        }
-        i += 1;
-    }
-    0
-}
-
-// The entry of a pair to write over: that for fewer lists.
-fn victim(cache: &[u32], pair: usize) -> usize
-    requires { (pair ≤ pairs) × (entry_words * (2 * pair + 2) ≤ length cache.now) }
-    ensures { entry_words * result + entry_words ≤ length cache.now }
-{
-    let first = 2 * pair;
-    if cache[ENTRY * (first + 1)] < cache[ENTRY * first] {
-        return first + 1;
-    }
-    first
-}
-
-// Writes the i-th entry, over what was there.
-fn write_at(cache: &mut [u32], i: usize, key: &[u32; KEY], number: u32)
-    requires { entry_words * i + entry_words ≤ length cache.old }
-    ensures { Stored cache.old cache.new key.now number }
-{
-    let at = ENTRY * i;
-    cache[at] = number;
-    let mut k = 0;
-    while k < KEY {
-        cache[at + 1 + k] = key[k];
-        k += 1;
-    }
 }
 
 // Whether the lists of so many rows, out of `count`, are kept: where there are 8 or more of one row, or 16 or more of several.
 // Looking up fewer costs too much of the time of trying them, where no position is met again. Any answer would do, so there is no
 // contract.
-pub fn is_kept(count: u8, left: usize) -> bool {
+pub fn is_kept(count: usize, left: u8) -> bool {
     match left {
         0 => false,
         1 => 8 <= count,
@@ -164,49 +86,43 @@ pub fn is_kept(count: u8, left: usize) -> bool {
     }
 }
 
-// The slot for the lists of so many rows from a position on. Where it has a number, all of them were tried and none breaks the rule.
-// Lists that are not kept get the pair after the last one, into which `store` writes nothing.
-pub fn lookup(
-    cache: &[u32],
-    position: Position,
-    variables: &[u32; 16],
-    balances: &[u32; 8],
-    count: u8,
-    left: usize,
-) -> Slot
-    requires { Keyed left (run_of position variables.now balances.now) }
-    ensures { (result.pair ≤ pairs) × ((result.number ≡ 0 → ⊥) →
-        Found cache.now (key_of left (run_of position variables.now balances.now)) result.number) }
+// The pair for the lists of so many rows, out of `count`, from a position on, if they are kept.
+pub fn pair_for(count: usize, left: u8, position: &Position) -> Option<usize>
+    ensures { IfSome result (λ pair. pair < 128) }
 {
-    if !is_kept(count, left) {
-        return Slot {
-            pair: PAIRS,
-            number: 0,
-        };
+    if is_kept(count, left) {
+        Some(pair_of(left, position))
+    } else {
+        None
     }
-    let key = key_of(position, variables, balances, left);
-    let pair = pair_of(&key);
-    let number = number_in(cache, pair, &key);
-    Slot { pair, number }
 }
 
-// Writes the entry for those lists into the pair, over the one for fewer lists; nothing where the cache has no such pair.
-pub fn store(
-    cache: &mut [u32],
-    pair: usize,
-    position: Position,
-    variables: &[u32; 16],
-    balances: &[u32; 8],
-    left: usize,
-    number: u32,
-)
-    requires { (pair ≤ pairs) × Keyed left (run_of position variables.now balances.now) }
-    ensures { StoredOrNot cache.old cache.new (key_of left (run_of position variables.now balances.now)) number }
+// The number in a pair's entry for those lists, if the cache has it.
+pub fn find(cache: &[Entry], pair: usize, left: u8, position: &Position) -> Option<u32>
+    requires { pair < 128 }
+    ensures found { IfSome result (λ n. Contains cache.now (record { number = n; left = left; position = position.now })) }
+    ensures some { IfSome result (λ n. 0 < n) }
 {
-    if cache.len() < ENTRY * (2 * pair + 2) {
+    for entry in cache.get(2 * pair..2 * pair + 2)? {
+        if entry.number != 0 && entry.is_for(left, position) {
+            return Some(entry.number);
+        }
+    }
+    None
+}
+
+// Writes an entry into a pair, over the one for fewer lists; nothing where the cache has no such pair.
+pub fn store(cache: &mut [Entry], pair: usize, entry: Entry)
+    requires { pair < 128 }
+    ensures { StoredOrNot cache.old cache.new entry }
+{
+    let first = 2 * pair;
+    if cache.len() < first + 2 {
         return;
     }
-    let key = key_of(position, variables, balances, left);
-    let i = victim(cache, pair);
-    write_at(cache, i, &key, number);
+    if cache[first + 1].number < cache[first].number {
+        cache[first + 1] = entry;
+    } else {
+        cache[first] = entry;
+    }
 }

@@ -6,22 +6,17 @@ ghost use Rattle.rules.specs.Exported.{VerdictHands};
 use crate::verdicts::verdict;
 use rules::{Judged, Verdict};
 
-fn wide(x: u8) -> u32
-    ensures { result ≡ x }
-{
-    x as u32
-}
-
 // The refusal's number (0: judged), its place, the verdict (1 broken, 2 held, 3 spent, 0 on refusal), the lists tried, the length
 // of the list.
+#[tactic(auto, unfolding(rules::specs::Answers::verdict_numbers))]
 fn verdict_words(v: Verdict) -> [u32; 5]
     ensures { result ≡ verdict_numbers v }
 {
     match v {
-        Verdict::Broken(n, k) => [0, 0, 1, n, wide(k)],
+        Verdict::Broken(n, k) => [0, 0, 1, n, u32::from(k)],
         Verdict::Held(n) => [0, 0, 2, n, 0],
         Verdict::Spent(n) => [0, 0, 3, n, 0],
-        Verdict::Refused(r) => [wide(r.number), r.place, 0, 0, 0],
+        Verdict::Refused(r) => [u32::from(r.number), r.place, 0, 0, 0],
     }
 }
 
@@ -29,23 +24,22 @@ fn verdict_words(v: Verdict) -> [u32; 5]
 fn judged_words(j: Judged) -> [u32; 13]
     ensures { result ≡ judged_numbers j }
 {
-    let verdict = j.verdict;
-    let rows = j.rows;
-    let v = verdict_words(verdict);
+    let v = verdict_words(j.verdict);
+    let r = j.rows;
     [
         v[0],
         v[1],
         v[2],
         v[3],
         v[4],
-        wide(rows[0]),
-        wide(rows[1]),
-        wide(rows[2]),
-        wide(rows[3]),
-        wide(rows[4]),
-        wide(rows[5]),
-        wide(rows[6]),
-        wide(rows[7]),
+        u32::from(r[0]),
+        u32::from(r[1]),
+        u32::from(r[2]),
+        u32::from(r[3]),
+        u32::from(r[4]),
+        u32::from(r[5]),
+        u32::from(r[6]),
+        u32::from(r[7]),
     ]
 }
 

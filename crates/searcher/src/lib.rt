@@ -2,45 +2,26 @@
 #![tactic(auto)]
 
 mod cache;
-pub mod entries;
 pub mod interface;
-pub mod judging;
+pub mod plan;
+pub mod rows;
 pub mod search;
 pub mod standing;
 pub mod verdicts;
 
-use runner::Prepared;
-
-// A rule: its type, its p and q, and for type 1 where its expression begins.
-#[derive(Clone, Copy)]
-pub struct Judge {
-    pub kind: usize,
-    pub p: u8,
-    pub q: u8,
-    pub at: usize,
-}
+use rules::State;
 
 // How a rule stands after some calls: whether it is broken, and whether a completed q was among them.
-#[derive(Clone, Copy)]
+#[derive(Clone, Copy, PartialEq, Eq)]
 pub struct Status {
     pub broken: bool,
     pub seen: bool,
 }
 
-// Where a search stands after some calls: the numbers of the state record that they led to, whose arrays are lent, and how the rule
-// stands.
-#[derive(Clone, Copy)]
+// Where a search stands after some calls: the state record that they led to, and how the rule stands. All that the search's answer
+// from there on depends on, but for the rows left.
+#[derive(Clone, Copy, PartialEq, Eq)]
 pub struct Position {
-    pub state: u32,
-    pub own: u32,
+    pub state: State,
     pub status: Status,
-}
-
-// What stays the same in a search.
-#[derive(Clone, Copy)]
-pub struct Plan {
-    pub prepared: Prepared,
-    pub judge: Judge,
-    pub count: u8,
-    pub bound: u32,
 }

@@ -1,26 +1,27 @@
 // The search over lists of call rows. For our own crates only: a caller has to see what it goes by, and that the record it begins
 // with fits.
-ghost use Rattle.std.specs.Prelude.{◌≡◌, Bool, List, [], ◌∷◌, ◌++◌, map, ℕ, ◌+◌, ◌-◌, ◌<◌, ◌≤◌, replicate};
+ghost use Rattle.std.specs.Prelude.{◌≡◌, Bool, List, [], ◌∷◌, ◌++◌, map, ℕ, ◌+◌, ◌-◌, ◌<◌, ◌≤◌, length, replicate};
 ghost use Rattle.rules.specs.Lists.{lists_of, lists_to};
 ghost use Rattle.rules.specs.Judging.{Ruling, held, is_completed, ruled_on, judged, judged_of};
 ghost use Rattle.machine.specs.Calls.{Fits};
-ghost use Rattle.searcher.specs.Searching.{continued, Planned, run_of, breaks_in};
-ghost use Rattle.searcher.specs.Caching.{Sound};
+ghost use Rattle.searcher.specs.Searching.{continued};
+ghost use Rattle.searcher.specs.Plans.{PlannedBy, breaks_in, verdict_after, Sound};
 
-use crate::cache::{WORDS, is_kept, lookup, store};
-use crate::entries::call_at;
+use crate::Position;
+use crate::cache::{ENTRIES, Entry, find, is_kept, pair_for, store};
+use crate::plan::Search;
 use crate::standing::after;
-use crate::{Plan, Position, Status};
-use rules::{Answer, Judged, State, Verdict};
+use rules::{Answer, Judged, Verdict};
 use runner::steps::call_fitting;
 
 // A verdict that shows no list.
+#[tactic(auto, unfolding(rules::specs::Judging::judged, rules::specs::Basics::padded))]
 pub fn unshown(verdict: Verdict) -> Judged
     ensures { result ≡ judged verdict [] }
 {
     Judged {
         verdict,
-        rows: [0u8; 8],
+        rows: [0; 8],
     }
 }
 
@@ -60,18 +61,14 @@ fn with_row(f: Judged, at: u8, row: u8) -> Judged
     ensures { (n : ℕ) (v : Ruling) → f ≡ judged_of (continued n (replicate (at + 1) 0) v) →
         result ≡ judged_of (continued n (replicate at 0 ++ (row ∷ [])) v) }
 {
-    let verdict = f.verdict;
-    match verdict {
-        Verdict::Broken(_, _) => {
-            let i = at as usize;
-            let mut rows = f.rows;
-            rows[i] = row;
-            Judged { verdict, rows }
-        }
-        _ => f,
+    let mut shown = f;
+    if let Verdict::Broken(_, _) = f.verdict {
+        shown.rows[usize::from(at)] = row;
     }
+    shown
 }
 
+#[tactic(auto, unfolding(rules::specs::Judging::is_completed))]
 pub fn is_completed(answer: Answer) -> bool
     ensures { result ≡ is_completed answer }
 {
@@ -81,281 +78,138 @@ pub fn is_completed(answer: Answer) -> bool
     }
 }
 
-// The position after the call of one row more. A refused call leaves how the rule stands.
-fn called(
-    file: &[u8],
-    words: &[u32],
-    nodes: &[u32; 1091],
-    entries: &[u32; 1024],
-    calls: &[u32; 112],
-    plan: Plan,
-    position: Position,
-    variables: &mut [u32; 16],
-    balances: &mut [u32; 8],
-    row: u8,
-) -> Position
-    requires { Planned file.now words.now nodes.now entries.now calls.now plan × (row < plan.count)
-        × Fits plan.prepared.fields (run_of position variables.old balances.old).state }
-    ensures fits { Fits plan.prepared.fields (run_of result variables.new balances.new).state }
-    ensures l_after { (g : Planned file.now words.now nodes.now entries.now calls.now plan) (l : List ℕ) →
-        breaks_in g (run_of result variables.new balances.new) l
-        ≡ breaks_in g (run_of position variables.old balances.old) (row ∷ l) }
-{
-    let k = call_at(calls, row as usize);
-    let p = plan.prepared;
-    let c = call_fitting(
-        file,
-        words,
-        nodes,
-        entries,
-        p,
-        position.state,
-        position.own,
-        variables,
-        balances,
-        k,
-    );
-    let answer = c.answer;
-    let status = position.status;
-    if is_completed(answer) {
-        let status = after(file, plan.judge, status, k.name, variables, c.own, c.state);
-        return Position {
-            state: c.state,
-            own: c.own,
-            status,
+impl Search<'_> {
+    // Goes on by the call of one row more. A refused call leaves how the rule stands.
+    fn call(&self, position: &mut Position, row: usize)
+        requires { PlannedBy self.now × (row < length self.now.rows.now) × Fits self.now.prepared.now.steps.fields position.old.state }
+        ensures fits { Fits self.now.prepared.now.steps.fields position.new.state }
+        ensures l_after { (g : PlannedBy self.now) (l : List ℕ) → breaks_in g position.new l ≡ breaks_in g position.old (row ∷ l) }
+    {
+        let prepared = self.prepared;
+        let rows = self.rows;
+        let call = &rows[row];
+        let answer = call_fitting(prepared, &mut position.state, call);
+        if is_completed(answer) {
+            let file = prepared.steps.file;
+            position.status = after(file, self.rule, position.status, call.name, &position.state);
+        }
+    }
+
+    // Tries every list that begins with the `at` rows that led to this position and has `left` more, after `tried` others. Its rows
+    // are put in where a list breaks the rule.
+    #[cycle(extend)]
+    fn extend(
+        &self,
+        position: &Position,
+        cache: &mut [Entry],
+        at: u8,
+        left: u8,
+        tried: u32,
+    ) -> Judged
+        requires { PlannedBy self.now × Fits self.now.prepared.now.steps.fields position.now.state × (at + left ≤ 8) × Sound self.now cache.old }
+        ensures sound { Sound self.now cache.new }
+        ensures value { (g : PlannedBy self.now) →
+            result ≡ verdict_after g self.now.bound position.now tried (replicate at 0) (lists_of (length self.now.rows.now) left) }
+    {
+        if left == 0 {
+            return ended(position.status.broken, at, tried, self.bound);
+        }
+        let Some(pair) = pair_for(self.rows.len(), left, position) else {
+            return self.extend_each(position, cache, at, left, tried);
         };
+        if let Some(number) = find(cache, pair, left, position) {
+            return all_ended(number, tried, self.bound);
+        }
+        let judged = self.extend_each(position, cache, at, left, tried);
+        if let Verdict::Held(n) = judged.verdict {
+            let entry = Entry {
+                number: n - tried,
+                left,
+                position: *position,
+            };
+            store(cache, pair, entry);
+        }
+        judged
     }
-    Position {
-        state: c.state,
-        own: c.own,
-        status,
-    }
-}
 
-// Tries every list that begins with the `at` rows that led to this position and has `left` more, after `tried` others. Where it
-// shows a list, those rows are zeros. Lists that the cache knows of are not tried again.
-#[cycle(extend)]
-fn extend(
-    file: &[u8],
-    words: &[u32],
-    nodes: &[u32; 1091],
-    entries: &[u32; 1024],
-    calls: &[u32; 112],
-    plan: Plan,
-    position: Position,
-    variables: &[u32; 16],
-    balances: &[u32; 8],
-    cache: &mut [u32],
-    at: u8,
-    left: usize,
-    tried: u32,
-) -> Judged
-    requires { Planned file.now words.now nodes.now entries.now calls.now plan
-        × Fits plan.prepared.fields (run_of position variables.now balances.now).state × (at + left ≤ 8)
-        × Sound file.now words.now nodes.now entries.now calls.now plan cache.old }
-    ensures sound { Sound file.now words.now nodes.now entries.now calls.now plan cache.new }
-    ensures value { (g : Planned file.now words.now nodes.now entries.now calls.now plan) →
-        result ≡ judged_of (continued tried (replicate at 0) (ruled_on (plan.bound - tried)
-        (breaks_in g (run_of position variables.now balances.now)) (lists_of plan.count left))) }
-{
-    if left == 0 {
-        let status = position.status;
-        return ended(status.broken, at, tried, plan.bound);
+    // The same where rows are left, row by row; the cache is asked only from the next row on.
+    #[cycle(extend)]
+    fn extend_each(
+        &self,
+        position: &Position,
+        cache: &mut [Entry],
+        at: u8,
+        left: u8,
+        tried: u32,
+    ) -> Judged
+        requires { PlannedBy self.now × Fits self.now.prepared.now.steps.fields position.now.state × (0 < left) × (at + left ≤ 8)
+            × Sound self.now cache.old }
+        ensures sound { Sound self.now cache.new }
+        ensures value { (g : PlannedBy self.now) →
+            result ≡ verdict_after g self.now.bound position.now tried (replicate at 0) (lists_of (length self.now.rows.now) left) }
+    {
+        let mut n = tried;
+        for row in 0..self.rows.len() {
+            let judged = self.extend_by(position, cache, at, left - 1, n, row);
+            let Verdict::Held(m) = judged.verdict else {
+                return judged;
+            };
+            n = m;
+        }
+        unshown(Verdict::Held(n))
     }
-    let slot = lookup(cache, position, variables, balances, plan.count, left);
-    if slot.number != 0 {
-        return all_ended(slot.number, tried, plan.bound);
-    }
-    let f = extend_each(
-        file, words, nodes, entries, calls, plan, position, variables, balances, cache, at, left,
-        tried,
-    );
-    let verdict = f.verdict;
-    let Verdict::Held(n) = verdict else {
-        return f;
-    };
-    store(
-        cache,
-        slot.pair,
-        position,
-        variables,
-        balances,
-        left,
-        n - tried,
-    );
-    f
-}
 
-// The same where rows are left, row by row; the cache is asked only from the next row on.
-#[cycle(extend)]
-fn extend_each(
-    file: &[u8],
-    words: &[u32],
-    nodes: &[u32; 1091],
-    entries: &[u32; 1024],
-    calls: &[u32; 112],
-    plan: Plan,
-    position: Position,
-    variables: &[u32; 16],
-    balances: &[u32; 8],
-    cache: &mut [u32],
-    at: u8,
-    left: usize,
-    tried: u32,
-) -> Judged
-    requires { Planned file.now words.now nodes.now entries.now calls.now plan
-        × Fits plan.prepared.fields (run_of position variables.now balances.now).state × (0 < left) × (at + left ≤ 8)
-        × Sound file.now words.now nodes.now entries.now calls.now plan cache.old }
-    ensures sound { Sound file.now words.now nodes.now entries.now calls.now plan cache.new }
-    ensures value { (g : Planned file.now words.now nodes.now entries.now calls.now plan) →
-        result ≡ judged_of (continued tried (replicate at 0) (ruled_on (plan.bound - tried)
-        (breaks_in g (run_of position variables.now balances.now)) (lists_of plan.count left))) }
-{
-    let mut n = tried;
-    let mut row: u8 = 0;
-    while row < plan.count {
-        let f = extend_by(
-            file,
-            words,
-            nodes,
-            entries,
-            calls,
-            plan,
-            position,
-            variables,
-            balances,
-            cache,
-            at,
-            left - 1,
-            n,
-            row,
-        );
-        let verdict = f.verdict;
-        let Verdict::Held(m) = verdict else {
-            return f;
-        };
-        n = m;
-        row += 1;
+    // Tries every list that begins with the `at` rows that led to this position and then this row, and has `left` more after it.
+    #[cycle(extend)]
+    fn extend_by(
+        &self,
+        position: &Position,
+        cache: &mut [Entry],
+        at: u8,
+        left: u8,
+        tried: u32,
+        row: usize,
+    ) -> Judged
+        requires { PlannedBy self.now × Fits self.now.prepared.now.steps.fields position.now.state × (row < length self.now.rows.now)
+            × (at + 1 + left ≤ 8) × Sound self.now cache.old }
+        ensures sound { Sound self.now cache.new }
+        ensures value { (g : PlannedBy self.now) →
+            result ≡ verdict_after g self.now.bound position.now tried (replicate at 0) (map (λ l. row ∷ l) (lists_of (length self.now.rows.now) left)) }
+    {
+        let mut next = *position;
+        self.call(&mut next, row);
+        let judged = self.extend(&next, cache, at + 1, left, tried);
+        with_row(judged, at, row as u8)
     }
-    unshown(Verdict::Held(n))
-}
 
-// Tries every list that begins with the `at` rows that led to this position and then this row, and has `left` more after it.
-#[cycle(extend)]
-fn extend_by(
-    file: &[u8],
-    words: &[u32],
-    nodes: &[u32; 1091],
-    entries: &[u32; 1024],
-    calls: &[u32; 112],
-    plan: Plan,
-    position: Position,
-    variables: &[u32; 16],
-    balances: &[u32; 8],
-    cache: &mut [u32],
-    at: u8,
-    left: usize,
-    tried: u32,
-    row: u8,
-) -> Judged
-    requires { Planned file.now words.now nodes.now entries.now calls.now plan × (row < plan.count)
-        × Fits plan.prepared.fields (run_of position variables.now balances.now).state × (at + 1 + left ≤ 8)
-        × Sound file.now words.now nodes.now entries.now calls.now plan cache.old }
-    ensures sound { Sound file.now words.now nodes.now entries.now calls.now plan cache.new }
-    ensures value { (g : Planned file.now words.now nodes.now entries.now calls.now plan) →
-        result ≡ judged_of (continued tried (replicate at 0) (ruled_on (plan.bound - tried)
-        (breaks_in g (run_of position variables.now balances.now)) (map (λ l. row ∷ l) (lists_of plan.count left)))) }
-{
-    let mut v = *variables;
-    let mut b = *balances;
-    let next = called(
-        file, words, nodes, entries, calls, plan, position, &mut v, &mut b, row,
-    );
-    let f = extend(
-        file,
-        words,
-        nodes,
-        entries,
-        calls,
-        plan,
-        next,
-        &v,
-        &b,
-        cache,
-        at + 1,
-        left,
-        tried,
-    );
-    with_row(f, at, row)
-}
-
-// Tries the lists by length, up to the depth, from the state that the start led to.
-fn by_length(
-    file: &[u8],
-    words: &[u32],
-    nodes: &[u32; 1091],
-    entries: &[u32; 1024],
-    calls: &[u32; 112],
-    plan: Plan,
-    fresh: State,
-    status: Status,
-    depth: usize,
-    cache: &mut [u32],
-) -> Judged
-    requires { Planned file.now words.now nodes.now entries.now calls.now plan × Fits plan.prepared.fields fresh × (depth ≤ 8)
-        × Sound file.now words.now nodes.now entries.now calls.now plan cache.old }
-    ensures { (g : Planned file.now words.now nodes.now entries.now calls.now plan) →
-        result ≡ judged_of (ruled_on plan.bound (breaks_in g (record { state = fresh; status = status })) (lists_to plan.count depth)) }
-{
-    let variables = fresh.variables;
-    let balances = fresh.balances;
-    let position = Position {
-        state: fresh.state,
-        own: fresh.own,
-        status,
-    };
-    let mut n: u32 = 0;
-    let mut length = 0;
-    while length <= depth {
-        let f = extend(
-            file, words, nodes, entries, calls, plan, position, &variables, &balances, cache, 0,
-            length, n,
-        );
-        let verdict = f.verdict;
-        let Verdict::Held(m) = verdict else {
-            return f;
-        };
-        n = m;
-        length += 1;
+    // Tries the lists by length, up to the depth, from the position that the start led to.
+    fn by_length(&self, fresh: &Position, depth: u8, cache: &mut [Entry]) -> Judged
+        requires { PlannedBy self.now × Fits self.now.prepared.now.steps.fields fresh.now.state × (depth ≤ 8) × Sound self.now cache.old }
+        ensures { (g : PlannedBy self.now) →
+            result ≡ judged_of (ruled_on self.now.bound (breaks_in g fresh.now) (lists_to (length self.now.rows.now) depth)) }
+    {
+        let mut n = 0;
+        for length in 0..depth + 1 {
+            let judged = self.extend(fresh, cache, 0, length, n);
+            let Verdict::Held(m) = judged.verdict else {
+                return judged;
+            };
+            n = m;
+        }
+        unshown(Verdict::Held(n))
     }
-    unshown(Verdict::Held(n))
-}
 
-// The same with a cache of its own, in which every entry is empty. Where nothing would be kept it has no entries, and there is
-// nothing to clear.
-pub fn search(
-    file: &[u8],
-    words: &[u32],
-    nodes: &[u32; 1091],
-    entries: &[u32; 1024],
-    calls: &[u32; 112],
-    plan: Plan,
-    fresh: State,
-    status: Status,
-    depth: usize,
-) -> Judged
-    requires { Planned file.now words.now nodes.now entries.now calls.now plan × Fits plan.prepared.fields fresh × (depth ≤ 8) }
-    ensures { (g : Planned file.now words.now nodes.now entries.now calls.now plan) →
-        result ≡ judged_of (ruled_on plan.bound (breaks_in g (record { state = fresh; status = status })) (lists_to plan.count depth)) }
-{
-    if is_kept(plan.count, depth) {
-        let mut cache = [0u32; WORDS];
-        return by_length(
-            file, words, nodes, entries, calls, plan, fresh, status, depth, &mut cache,
-        );
+    // The same with a cache of its own, in which every entry is empty. Where nothing would be kept it has no entries, and there is
+    // nothing to clear.
+    pub fn search(&self, fresh: &Position, depth: u8) -> Judged
+        requires { PlannedBy self.now × Fits self.now.prepared.now.steps.fields fresh.now.state × (depth ≤ 8) }
+        ensures { (g : PlannedBy self.now) →
+            result ≡ judged_of (ruled_on self.now.bound (breaks_in g fresh.now) (lists_to (length self.now.rows.now) depth)) }
+    {
+        if is_kept(self.rows.len(), depth) {
+            let mut cache = [Entry::EMPTY; ENTRIES];
+            return self.by_length(fresh, depth, &mut cache);
+        }
+        self.by_length(fresh, depth, &mut [])
     }
-    let mut cache = [0u32; 1];
-    by_length(
-        file, words, nodes, entries, calls, plan, fresh, status, depth, &mut cache,
-    )
 }

@@ -10,28 +10,32 @@ ghost use Rattle.machine.specs.Calls.{Fits};
 ghost use Rattle.access.specs.Trees.{AcceptedFile};
 ghost use Rattle.access.specs.Places.{Laid};
 ghost use Rattle.expansion.specs.Writing.{HasSteps};
-ghost use Rattle.walker.specs.Tables.{Expanded};
 ghost use Rattle.searcher.specs.Searching.{Written};
 
-use crate::judging::judge_accepted;
+use crate::Position;
+use crate::plan::Search;
+use crate::rows::rows;
 use crate::search::{is_completed, unshown};
+use crate::standing::at_first;
 use access::Layout;
+use access::entries::rule;
 use access::fields::fields;
 use access::places::layout;
 use expansion::writing::write_expansion;
 use machine::outcomes::refusal;
 use reader::read;
-use rules::{Counted, Judged, State, Verdict};
+use rules::{Judged, State, Verdict};
 use runner::Prepared;
 use runner::accepted::start_accepted;
 use walker::index::{index_entries, index_nodes};
+use walker::steps::Steps;
 
 pub fn verdict(file: &[u8], rule: u32, words: &mut [u32]) -> Judged
     ensures { lent result words.new ≡ verdict_of file.now rule words.old }
 {
     match read(file) {
-        Counted::Steps(n) => verdict_accepted(file, n as usize, rule as usize, words),
-        Counted::Refused(r) => unshown(Verdict::Refused(r)),
+        Ok(n) => verdict_accepted(file, n as usize, rule as usize, words),
+        Err(r) => unshown(Verdict::Refused(r)),
     }
 }
 
@@ -47,17 +51,15 @@ fn verdict_accepted(file: &[u8], steps: usize, i: usize, words: &mut [u32]) -> J
     if words.len() < 5 * steps {
         return unshown(Verdict::Refused(refusal(11)));
     }
-    let o = start_accepted(file);
-    let answer = o.answer;
-    if !is_completed(answer) {
+    let started = start_accepted(file);
+    if !is_completed(started.answer) {
         return unshown(Verdict::Refused(refusal(27)));
     }
-    let fresh = o.state;
     write_expansion(file, words);
-    judge_written(file, words, steps, l, i, fresh)
+    judge_written(file, words, steps, l, i, started.state)
 }
 
-// The i-th rule, once the steps were written.
+// The i-th rule, once the steps were written, from the state that the start led to.
 fn judge_written(
     file: &[u8],
     words: &[u32],
@@ -72,11 +74,30 @@ fn judge_written(
         get_elem? a.tree.rules i ≡ some x → fresh ≡ (start_tree a.tree).state → result ≡ judged_of (ruling a.tree x) }
 {
     let nodes = index_nodes(words, steps);
-    let e = index_entries(words, steps);
-    let places = e.places;
-    let p = Prepared {
-        fields: fields(file),
-        entries: e.count,
+    let entries = index_entries(words, steps);
+    let fields = fields(file);
+    let steps = Steps {
+        file,
+        words,
+        nodes: &nodes,
+        fields,
     };
-    judge_accepted(file, words, &nodes, &places, p, l, i, fresh)
+    let prepared = Prepared {
+        steps,
+        entries: &entries,
+    };
+    let rule = rule(file, l, i);
+    let all = rows(file, l);
+    let search = Search {
+        prepared: &prepared,
+        rule,
+        rows: &all[..l.rows.count],
+        bound: fields.bound,
+    };
+    let status = at_first(file, rule, &fresh);
+    let position = Position {
+        state: fresh,
+        status,
+    };
+    search.search(&position, fields.depth)
 }

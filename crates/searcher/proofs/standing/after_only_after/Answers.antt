@@ -8,7 +8,7 @@ use Rattle.searcher.specs.declared.Status.{Status}
 use Rattle.searcher.specs.Standing.{breaks_after}
 use Rattle.searcher.proofs.Events.{only-after-broken, only-after-counted}
 use Rattle.searcher.proofs.standing.after_only_after.Goals as goal
-use Rattle.searcher.proofs.standing.after_only_after.Goals.{then-name-p+else-not-status, else-name-p}
+use Rattle.searcher.proofs.standing.after_only_after.Goals.{else-name-p-via-then-name-p+else-not-status, else-name-p-via-else-name-p}
 
 unnot : (b : Bool) → Bool.not b ≡ false → b ≡ true
 unnot true h = refl
@@ -24,4 +24,4 @@ returns c = λ s es.
     let a = c.args in
     ap (λ (t : Status). breaks_after (only_after a.p a.q) t es) c.counted.ensures
     ∙ only-after-counted a.p a.q a.status (record { name = a.name; state = s }) es
-    (elim c.if-name-p.branch [ then-name-p+else-not-status w ↦ inr (unnot a.status.seen w.if-not-status.false) | else-name-p w ↦ inl w.if-name-p.false ])
+    (elim c.else-name-p.branch [ else-name-p-via-then-name-p+else-not-status w ↦ inr (unnot a.status.seen w.if-not-status.false) | else-name-p-via-else-name-p w ↦ inl w.if-name-p.false ])

@@ -10,17 +10,14 @@ use Rattle.searcher.proofs.standing.at_first.Goals as goal
 pub is_violated-broken-requires : goal.is_violated-broken-requires
 is_violated-broken-requires c =
     let f = c.args.file.now in
-    let j = c.args.judge in
-    type-one f j (λ _. (e : Expr) × ExpressionAt f j.at e) c.requires.0 c.requires.1 c.if-judge-eq1.true (λ e h. (e, h))
+    type-one f c.args.rule (λ _. (e : Expr) × ExpressionAt f c.in-Always.at e) _ c.requires.0 c.requires.1 c.in-Always.is (λ e h. (e, h))
 
-pub returns-then-judge-eq1 : goal.returns-then-judge-eq1
-returns-then-judge-eq1 c = λ rule h es.
+pub returns-in-Always : goal.returns-in-Always
+returns-in-Always c = λ rule h es.
     let a = c.args in
-    type-one a.file.now a.judge
-    (λ rule. breaks_after rule (record { broken = c.is_violated-broken.result; seen = false }) es ≡ breaks_by rule a.s es)
-    rule h c.if-judge-eq1.true (λ e k. begins-always e a.s c.is_violated-broken.result (c.is_violated-broken.ensures e k a.s.balances) es)
+    type-one a.file.now a.rule
+    (λ rule. breaks_after rule (record { broken = c.is_violated-broken.result; seen = false }) es ≡ breaks_by rule a.state.now es)
+    _ rule h c.in-Always.is (λ e k. begins-always e a.state.now c.is_violated-broken.result (c.is_violated-broken.ensures e k) es)
 
-pub returns : goal.returns
-returns c = λ rule h es.
-    let a = c.args in
-    begins-other a.file.now a.judge rule h c.if-judge-eq1.false a.s es
+pub returns-in_default : goal.returns-in_default
+returns-in_default c = λ rule h es. let a = c.args in begins-other a.file.now a.rule rule h c.in_default.not-Always a.state.now es

@@ -1,8 +1,7 @@
 -- The expression's value on the state, with zeros for locals and arguments, which no rule reads.
+use Rattle.std.specs.Prelude.{Some, None}
 use mathlib.Core.Path.{sym, ◌∙◌}
-use Rattle.rules.specs.declared.Value.TheVariants.{Is, Failed}
 use Rattle.rules.specs.Judging.{not_true}
-use Rattle.machine.specs.Calls.{state_of}
 use Rattle.searcher.proofs.Events.{here, violated-by}
 use Rattle.searcher.proofs.standing.is_violated.Goals as goal
 
@@ -11,16 +10,16 @@ evaluate-requires c =
     let a = c.args in
     (here a.file.now a.at c.requires.0 c.requires.1).0
 
-pub returns-in-Is : goal.returns-in-Is
+pub returns-in-Some : goal.returns-in-Some
 unfolding not_true
-returns-in-Is c = λ e h bs.
+returns-in-Some c = λ e h.
     let a = c.args in
-    let s = state_of a.state a.own a.variables.now bs in
-    violated-by a.file.now a.at s (Is c.in-Is.x) (λ g. sym c.in-Is.is ∙ c.evaluate.ensures g) e h
+    let s = a.state.now in
+    violated-by a.file.now a.at s (Some c.in-Some.x) (λ g. sym c.in-Some.is ∙ c.evaluate.ensures g) e h
 
-pub returns-in-Failed : goal.returns-in-Failed
+pub returns-in-None : goal.returns-in-None
 unfolding not_true
-returns-in-Failed c = λ e h bs.
+returns-in-None c = λ e h.
     let a = c.args in
-    let s = state_of a.state a.own a.variables.now bs in
-    violated-by a.file.now a.at s Failed (λ g. sym c.in-Failed.is ∙ c.evaluate.ensures g) e h
+    let s = a.state.now in
+    violated-by a.file.now a.at s None (λ g. sym c.in-None.is ∙ c.evaluate.ensures g) e h

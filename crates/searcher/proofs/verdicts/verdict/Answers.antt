@@ -6,8 +6,8 @@ use Rattle.access.proofs.Using.{counted-file, refused-file}
 use Rattle.searcher.proofs.verdicts.verdict.Goals as goal
 
 pub verdict_accepted-requires : goal.verdict_accepted-requires
-verdict_accepted-requires c = counted-file _ _ (sym c.in-Steps.is ∙ c.read.ensures)
+verdict_accepted-requires c = counted-file _ _ (sym c.in-Ok.is ∙ c.read.ensures)
 
-pub returns-in-Refused : goal.returns-in-Refused
+pub returns-in-Err : goal.returns-in-Err
 unfolding verdict on_file refused_verdict
-returns-in-Refused c = rw (refused-file _ _ (sym c.in-Refused.is ∙ c.read.ensures), c.unshown.ensures)
+returns-in-Err c = rw (refused-file _ _ (sym c.in-Err.is ∙ c.read.ensures), c.unshown.ensures)
