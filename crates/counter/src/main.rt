@@ -1,4 +1,4 @@
-// Runs document 01's calls of the counter agreement and prints what they answer.
+// Runs calls of the counter agreement and prints what they answer.
 #![tactic(auto)]
 
 ghost use Rattle.std.specs.Prelude.{◌≡◌, [], ◌∷◌};
@@ -6,8 +6,10 @@ ghost use Rattle.rules.specs.Calling.{run_list};
 ghost use Rattle.rules.specs.Counter.{counter as counter_of, named as named_of};
 ghost use Rattle.counter.specs.Lists.{outcomes};
 
-use rules::{Answer, Call, Outcome, Returned, State};
+use rules::{Answer, Call, Outcome};
 use runner::unexpanded::{call, start};
+use std::fmt;
+use std::fmt::Write;
 
 // 176 bytes: the fields, the initial action, the fallback action, the transition (three lines), the row, two rules.
 const COUNTER: [u8; 176] = *b"\
@@ -74,63 +76,70 @@ fn limited(k: Call, l: Call) -> Ran
     run(&file, k, l)
 }
 
-fn print(text: &[u8], n: u32) {
-    io::write_all(1, text);
-    io::print_decimal(1, n as u64);
+// An outcome as it is printed.
+#[derive(Drop)]
+struct Shown(Outcome);
+
+impl fmt::Display for Shown {
+    fn fmt<W: fmt::Write>(&self, f: &mut fmt::Formatter<W>) -> fmt::Result {
+        match self.0.answer {
+            Answer::Completed(None, units) => write!(f, "completed, no value, units {units}")?,
+            Answer::Completed(Some(x), units) => write!(f, "completed, value {x}, units {units}")?,
+            Answer::Refused(r, units) => {
+                let number = r.number;
+                write!(f, "refused {number}, units {units}")?;
+            }
+        }
+        let state = self.0.state.state;
+        let first = self.0.state.variables[0];
+        let balance = self.0.state.balances[0];
+        let own = self.0.state.own;
+        write!(
+            f,
+            ", state {state}, v0 {first}, balance {balance}, own {own}"
+        )
+    }
 }
 
-fn show_value(v: Returned) {
-    match v {
-        Returned::NoValue => {
-            io::write_all(1, b"completed, no value");
-        }
-        Returned::Given(x) => {
-            print(b"completed, value ", x);
+// Standard output as a writer of formats.
+#[derive(Drop)]
+struct Output;
+
+impl fmt::Write for Output {
+    fn write_str(&mut self, text: &str) -> fmt::Result {
+        if io::write_all(1, text.as_bytes()) {
+            Ok(())
+        } else {
+            Err(fmt::Error)
         }
     }
 }
 
-fn show_state(s: State) {
-    print(b", state ", s.state);
-    print(b", v0 ", s.variables[0]);
-    print(b", balance ", s.balances[0]);
-    print(b", own ", s.own);
-    io::write_all(1, b"\n");
+fn show_all(title: &str, ran: Ran) -> fmt::Result {
+    let started = Shown(ran.started);
+    let first = Shown(ran.first);
+    let second = Shown(ran.second);
+    let mut output = Output;
+    writeln!(output, "{title}")?;
+    writeln!(output, "  start: {started}")?;
+    writeln!(output, "  first call: {first}")?;
+    writeln!(output, "  second call: {second}")
 }
 
-fn show(name: &[u8], o: Outcome) {
-    io::write_all(1, name);
-    let answer = o.answer;
-    match answer {
-        Answer::Completed(v, units) => {
-            show_value(v);
-            print(b", units ", units);
-        }
-        Answer::Refused(r, units) => {
-            print(b"refused ", r.number as u32);
-            print(b", units ", units);
-        }
-    }
-    let s = o.state;
-    show_state(s);
+fn show() -> fmt::Result {
+    show_all("call 1 twice", counter(named(1, 0), named(1, 0)))?;
+    show_all(
+        "call 9, coins 6 with call 1",
+        counter(named(9, 0), named(1, 6)),
+    )?;
+    show_all(
+        "coins 5 with call 1, call 9",
+        counter(named(1, 5), named(9, 0)),
+    )?;
+    show_all("limit 5: call 1, call 9", limited(named(1, 0), named(9, 0)))
 }
 
-fn show_all(r: Ran) {
-    let started = r.started;
-    let first = r.first;
-    let second = r.second;
-    show(b"  start: ", started);
-    show(b"  first call: ", first);
-    show(b"  second call: ", second);
-}
-
+// Where standard output takes no more, the rest is not printed.
 fn main() {
-    io::write_all(1, b"call 1 twice\n");
-    show_all(counter(named(1, 0), named(1, 0)));
-    io::write_all(1, b"call 9, coins 6 with call 1\n");
-    show_all(counter(named(9, 0), named(1, 6)));
-    io::write_all(1, b"coins 5 with call 1, call 9\n");
-    show_all(counter(named(1, 5), named(9, 0)));
-    io::write_all(1, b"limit 5: call 1, call 9\n");
-    show_all(limited(named(1, 0), named(9, 0)));
+    let _ = show();
 }

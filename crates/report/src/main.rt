@@ -8,7 +8,5 @@ fn main() {
     let mut bytes = [0u8; 32769];
     let n = io::read_full(0, &mut bytes);
     let page = report(&bytes[..n]);
-    let text = page.bytes;
-    let length = page.length;
-    io::write_all(1, &text[..length]);
+    io::write_all(1, page.text());
 }

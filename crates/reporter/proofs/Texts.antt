@@ -5,8 +5,8 @@ use Prim.Native.Nat.{ℕ, zero, suc, ◌+◌, ◌-◌, ◌*◌, ◌/◌, ◌%◌
 use mathlib.Core.Path.{◌≡◌, refl, sym, ap, ap₂, subst, ◌∙◌}
 use mathlib.Core.Bool.{Bool, true, false}
 use mathlib.Core.List.{List, [], ◌∷◌, ◌++◌, append_assoc, append-nil}
-use lib.ListN.{length, get_or, take, drop, set, replicate, length-append, length-set, length-drop, take-append-drop}
-use lib.Seq.{append_snoc, set_split, drop_at, drop-drop, length-take-le, take_all}
+use lib.ListN.{length, get_or, take, drop, set, replicate, length-append, length-set, length-drop}
+use lib.Seq.{append_snoc, set_split, drop_at, length-take-le, take_all, take_at}
 use lib.Dec.{ltb}
 use borrow.Author.Tests.{lt-ltb, le-ltb}
 use native.Mathlib.Nat.{mod-eq_of_lt, pow-suc, mul_comm}
@@ -15,27 +15,11 @@ use Rattle.rules.specs.Basics.{joined, each, padded}
 use Rattle.rules.specs.Judging.{verdict}
 use Rattle.rules.specs.Reporting.{digits, decimal, spaced, rule_line}
 use Rattle.access.specs.declared.Layout.{Layout}
-use Rattle.access.specs.Trees.{TreeRead}
-use Rattle.access.specs.Places.{Laid}
-use Rattle.access.proofs.Using.{counts, tree-bounds}
-use Rattle.reporter.specs.Texts.{Put, page}
-
--- two lists that are the same from one place on are so from a later one on
-later : (mid n : ℕ) {to : ℕ} (x y : List ℕ) → to ≡ mid + n → drop mid y ≡ drop mid x → drop to y ≡ drop to x
-later mid n x y e h =
-    ap (λ (k : ℕ). drop k y) e ∙ sym (drop-drop n mid y) ∙ ap (drop n) h ∙ drop-drop n mid x ∙ ap (λ (k : ℕ). drop k x) (sym e)
-
-pub then-put : {at mid to : ℕ} {a b x y z : List ℕ} → Put at a x y mid → Put mid b y z to → Put at (a ++ b) x z to
-then-put {at} {mid} {to} {a} {b} {x} {y} {z} p q =
-    record {
-      next = omega (arith, p.next, q.next, length-append a b);
-      size = q.size ∙ p.size;
-      front = q.front ∙ ap (λ (l : List ℕ). l ++ b) p.front ∙ append_assoc (take at x) a b;
-      rest = q.rest ∙ later mid (length b) x y q.next p.rest;
-    }
-
-pub put-none : (at : ℕ) (x : List ℕ) → Put at [] x x at
-put-none at x = record { next = omega arith; size = refl; front = sym (append-nil (take at x)); rest = refl }
+use Rattle.access.specs.Trees.{TreeRead, AcceptedFile}
+use Rattle.access.specs.Places.{Laid, LaidOut}
+use Rattle.access.proofs.Using.{counts, tree-bounds, tree_of}
+use Rattle.reporter.specs.Texts.{Filled}
+use borrow.Rule.Slice.PartMut.{put_mid, post_of}
 
 -- the first rows and one more
 pub rows_more : (rows : List ℕ) (i : ℕ) → i < length rows → joined spaced (take i rows) ++ spaced (get_or rows i 0) ≡ joined spaced (take (suc i) rows)
@@ -123,14 +107,35 @@ drop-zeros zero m = let z : m ≡ m - 0 = omega arith in ap zeros z
 drop-zeros (suc n) zero = let z : 0 ≡ 0 - suc n = omega arith in ap zeros z
 drop-zeros (suc n) (suc m) = let z : m - n ≡ suc m - suc n = omega arith in drop-zeros n m ∙ ap zeros z
 
-pub put-page : {text after : List ℕ} {to : ℕ} → Put 0 text (zeros 1024) after to → record { bytes = after; length = to } ≡ page text
-unfolding page padded
-put-page {text} {after} {to} p =
-    let end : to ≡ length text = omega (arith, p.next) in
-    let bytes : after ≡ padded 1024 text =
-    sym (take-append-drop to after)
-    ∙ ap₂ (λ (l r : List ℕ). l ++ r) p.front (p.rest ∙ drop-zeros to 1024 ∙ ap (λ (k : ℕ). zeros (1024 - k)) end) in
-    λ i. record { bytes = bytes i; length = end i }
+pub filled_none : Filled 0 (zeros 1024)
+unfolding padded
+filled_none = record { fits = omega arith; zeros = refl }
+
+module _ (n : ℕ) (xs text : List ℕ) (f : Filled n xs) (full : length xs ≡ 1024) (room : n + length text ≤ 1024) where
+  behind : drop n xs ≡ zeros (1024 - n)
+  unfolding padded
+  behind =
+      let l = length-take-le n xs (omega arith) in
+      ap (drop n) f.zeros ∙ drop_at (take n xs) (zeros (1024 - length (take n xs))) n l ∙ ap (λ k. zeros (1024 - k)) l
+
+  -- a text put behind the one that is there
+  pub filled-put : Filled (n + length text) (put_mid n (n + length text - n) xs text)
+  unfolding padded
+  filled-put =
+      let l = length-take-le n xs (omega arith) in
+      let k = n + length text in
+      let rest = post_of n (k - n) xs in
+      let here : length (take n xs ++ text) ≡ k = length-append (take n xs) text ∙ ap (λ i. i + length text) l in
+      let e : take n xs ++ (text ++ rest) ≡ (take n xs ++ text) ++ rest = sym (append_assoc (take n xs) text rest) in
+      let front : take k (take n xs ++ (text ++ rest)) ≡ take n xs ++ text = ap (take k) e ∙ take_at (take n xs ++ text) rest k here in
+      let shown : length (take k (take n xs ++ (text ++ rest))) ≡ k = ap length front ∙ here in
+      let left : 1024 - n - (k - n) ≡ 1024 - length (take k (take n xs ++ (text ++ rest))) = omega (arith, shown) in
+      let zs : rest ≡ zeros (1024 - length (take k (take n xs ++ (text ++ rest)))) =
+      ap (drop (k - n)) behind ∙ drop-zeros (k - n) (1024 - n) ∙ ap zeros left in
+      record {
+        fits = room;
+        zeros = e ∙ ap₂ (λ (x y : List ℕ). x ++ y) (sym front) zs;
+      }
 
 pub decimal-short : (n : ℕ) → length (decimal n) ≤ 10
 unfolding decimal
@@ -144,3 +149,6 @@ line file i = rule_line i (verdict file i (replicate 5120 0)).answer
 
 pub few : {file : List ℕ} {l : Layout} → Laid file l → TreeRead file → l.rules.count ≤ 8
 few h t = omega (arith, (counts h t).2, (tree-bounds t).rules)
+
+pub few-laid : {file : List ℕ} {l : Layout} → AcceptedFile file → ((a : TreeRead file) → LaidOut file a.tree l) → l.rules.count ≤ 8
+few-laid a h = let t = tree_of a in few (record { read = t; out = h t }) t

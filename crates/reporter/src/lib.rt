@@ -2,75 +2,52 @@
 #![tactic(auto)]
 
 mod lines;
-mod text;
+pub mod page;
 
-ghost use Rattle.std.specs.Prelude.{◌≡◌, ◌+◌, ◌≤◌, length, take, replicate};
+ghost use Rattle.std.specs.Prelude.{◌≡◌, ◌+◌, ◌≤◌, ◌++◌, length, replicate};
 ghost use Rattle.rules.specs.Calling.{start_tree};
 ghost use Rattle.rules.specs.Judging.{is_completed, verdict as verdict_of};
 ghost use Rattle.rules.specs.Reporting.{rule_lines, report as report_of};
 ghost use Rattle.access.specs.Trees.{AcceptedFile};
-ghost use Rattle.reporter.specs.Texts.{Put, page};
 
 use crate::lines::{put_refusal, put_rule, put_steps};
-use crate::text::put;
+use crate::page::Page;
 use access::places::layout;
 use reader::read;
-use rules::{Counted, Judged};
+use rules::Judged;
 use runner::accepted::start_accepted;
 use searcher::search::is_completed;
 use searcher::verdicts::verdict;
 
-// A report: the first bytes, as many as its length; then zeros.
-#[derive(Clone, Copy)]
-pub struct Page {
-    pub bytes: [u8; 1024],
-    pub length: usize,
-}
-
-// What the report program prints of any bytes, and zeros behind it. The second `ensures` is what lending the text as
-// `&bytes[..length]` asks.
+// What the report program prints of any bytes.
 pub fn report(file: &[u8]) -> Page
-    ensures value { result ≡ page (report_of file.now) }
-    ensures length_in_bounds { (result.length ≤ length result.bytes) × (result.length ≡ length (take result.length result.bytes)) }
+    ensures { result ≡ report_of file.now }
 {
-    let mut bytes = [0u8; 1024];
-    let length = put_report(file, &mut bytes);
-    Page { bytes, length }
-}
-
-fn put_report(file: &[u8], text: &mut [u8]) -> usize
-    requires { 1024 ≤ length text.old }
-    ensures { Put 0 (report_of file.now) text.old text.new result × (result ≤ 1024) }
-{
+    let mut page = Page::new();
     match read(file) {
-        Counted::Refused(r) => put_refusal(text, 0, r),
-        Counted::Steps(n) => {
-            let at = put_steps(text, 0, n);
-            put_rules(file, text, at)
+        Err(r) => put_refusal(&mut page, r),
+        Ok(n) => {
+            put_steps(&mut page, n);
+            put_rules(file, &mut page);
         }
     }
+    page
 }
 
 // A line for each rule, or that the start failed.
-fn put_rules(file: &[u8], text: &mut [u8], at: usize) -> usize
-    requires { AcceptedFile file.now × (at + 976 ≤ length text.old) }
-    ensures { ((a : AcceptedFile file.now) →
-        Put at (rule_lines file.now a.tree (is_completed (start_tree a.tree).answer)) text.old text.new result) × (result ≤ at + 976) }
+fn put_rules(file: &[u8], page: &mut Page)
+    requires { AcceptedFile file.now × (length page.old + 976 ≤ 1024) }
+    ensures { (a : AcceptedFile file.now) →
+        page.new ≡ page.old ++ rule_lines file.now a.tree (is_completed (start_tree a.tree).answer) }
 {
-    let o = start_accepted(file);
-    let answer = o.answer;
-    if !is_completed(answer) {
-        return put(text, at, b"start refused 27\n");
+    if !is_completed(start_accepted(file).answer) {
+        page.put(b"start refused 27\n");
+        return;
     }
-    let l = layout(file);
-    let n = l.rules.count;
-    let mut next = at;
-    let mut i = 0;
-    while i < n {
-        next = put_rule(text, next, i as u32, judged(file, i as u32));
-        i += 1;
+    let count = layout(file).rules.count;
+    for i in 0..count {
+        put_rule(page, i as u32, judged(file, i as u32));
     }
-    next
 }
 
 // The verdict on a rule, with words enough for every accepted file.

@@ -1,84 +1,77 @@
-// The report's lines. For our own crates only: a caller has to see that the buffer has room.
-ghost use Rattle.std.specs.Prelude.{◌≡◌, ◌+◌, ◌≤◌, ◌++◌, length, take};
+// The report's lines. For our own crates only: a caller has to see that the page has room.
+ghost use Rattle.std.specs.Prelude.{◌≡◌, ◌+◌, ◌*◌, ◌≤◌, ◌++◌, length};
 ghost use Rattle.rules.specs.Basics.{joined};
 ghost use Rattle.rules.specs.Reporting.{spaced, refused_line, steps_line, verdict_part, rule_line};
-ghost use Rattle.reporter.specs.Texts.{Put};
 
-use crate::text::{put, put_spaced};
+use crate::page::Page;
 use rules::{Judged, Refusal, Verdict};
 
-pub fn put_refusal(text: &mut [u8], at: usize, r: Refusal) -> usize
-    requires { at + 30 ≤ length text.old }
-    ensures { Put at (refused_line r) text.old text.new result × (result ≤ at + 30) }
+#[tactic(auto, unfolding(rules::specs::Reporting::refused_line))]
+pub fn put_refusal(page: &mut Page, r: Refusal)
+    requires { length page.old + 30 ≤ 1024 }
+    ensures { page.new ≡ page.old ++ refused_line r }
 {
-    let a = put(text, at, b"refused");
-    let b = put_spaced(text, a, r.number as u32);
-    let c = put_spaced(text, b, r.place);
-    put(text, c, b"\n")
+    page.put(b"refused");
+    page.put_spaced(u32::from(r.number));
+    page.put_spaced(r.place);
+    page.put(b"\n");
 }
 
-pub fn put_steps(text: &mut [u8], at: usize, steps: u32) -> usize
-    requires { at + 17 ≤ length text.old }
-    ensures { Put at (steps_line steps) text.old text.new result × (result ≤ at + 17) }
+#[tactic(auto, unfolding(rules::specs::Reporting::steps_line))]
+pub fn put_steps(page: &mut Page, steps: u32)
+    requires { length page.old + 17 ≤ 1024 }
+    ensures after { page.new ≡ page.old ++ steps_line steps }
+    ensures short { length page.new ≤ length page.old + 17 }
 {
-    let a = put(text, at, b"steps");
-    let b = put_spaced(text, a, steps);
-    put(text, b, b"\n")
+    page.put(b"steps");
+    page.put_spaced(steps);
+    page.put(b"\n");
 }
 
-fn wide(x: u8) -> u32
-    ensures { result ≡ x }
+#[tactic(auto, using(crate::proofs::Texts::rows_more), unfolding(rules::specs::Basics::joined))]
+fn put_rows(page: &mut Page, rows: &[u8])
+    requires { length page.old + 11 * length rows.now ≤ 1024 }
+    ensures after { page.new ≡ page.old ++ joined spaced rows.now }
+    ensures short { length page.new ≤ length page.old + 11 * length rows.now }
 {
-    x as u32
-}
-
-// The first k of the rows.
-fn put_rows(text: &mut [u8], at: usize, rows: [u8; 8], k: usize) -> usize
-    requires { at + 88 ≤ length text.old }
-    ensures { Put at (joined spaced (take k rows)) text.old text.new result × (result ≤ at + 88) }
-{
-    let mut next = at;
-    let mut i = 0;
-    while i < 8 {
-        if k <= i {
-            return next;
-        }
-        next = put_spaced(text, next, wide(rows[i]));
-        i += 1;
-    }
-    next
-}
-
-fn put_tried(text: &mut [u8], at: usize, word: &[u8], tried: u32) -> usize
-    requires { at + (length word.now + 11) ≤ length text.old }
-    ensures { Put at (word.now ++ spaced tried) text.old text.new result × (result ≤ at + (length word.now + 11)) }
-{
-    let a = put(text, at, word);
-    put_spaced(text, a, tried)
-}
-
-fn put_verdict(text: &mut [u8], at: usize, j: Judged) -> usize
-    requires { at + 106 ≤ length text.old }
-    ensures { Put at (verdict_part j j.verdict) text.old text.new result × (result ≤ at + 106) }
-{
-    let verdict = j.verdict;
-    let rows = j.rows;
-    match verdict {
-        Verdict::Broken(n, k) => {
-            let a = put_tried(text, at, b" broken", n);
-            put_rows(text, a, rows, k as usize)
-        }
-        Verdict::Held(n) => put_tried(text, at, b" held", n),
-        Verdict::Spent(n) => put_tried(text, at, b" spent", n),
-        Verdict::Refused(r) => put_tried(text, at, b" refused", r.number as u32),
+    for row in rows {
+        page.put_spaced(u32::from(*row));
     }
 }
 
-pub fn put_rule(text: &mut [u8], at: usize, i: u32, j: Judged) -> usize
-    requires { at + 122 ≤ length text.old }
-    ensures { Put at (rule_line i j) text.old text.new result × (result ≤ at + 122) }
+fn put_tried(page: &mut Page, word: &[u8], tried: u32)
+    requires { length page.old + (length word.now + 11) ≤ 1024 }
+    ensures after { page.new ≡ page.old ++ (word.now ++ spaced tried) }
+    ensures short { length page.new ≤ length page.old + (length word.now + 11) }
 {
-    let a = put_tried(text, at, b"rule", i);
-    let b = put_verdict(text, a, j);
-    put(text, b, b"\n")
+    page.put(word);
+    page.put_spaced(tried);
+}
+
+#[tactic(auto, unfolding(rules::specs::Reporting::verdict_part))]
+fn put_verdict(page: &mut Page, j: Judged)
+    requires { length page.old + 106 ≤ 1024 }
+    ensures after { page.new ≡ page.old ++ verdict_part j j.verdict }
+    ensures short { length page.new ≤ length page.old + 106 }
+{
+    match j.verdict {
+        Verdict::Broken(tried, count) => {
+            put_tried(page, b" broken", tried);
+            put_rows(page, &j.rows[..usize::from(count).min(8)]);
+        }
+        Verdict::Held(tried) => put_tried(page, b" held", tried),
+        Verdict::Spent(tried) => put_tried(page, b" spent", tried),
+        Verdict::Refused(r) => put_tried(page, b" refused", u32::from(r.number)),
+    }
+}
+
+#[tactic(auto, unfolding(rules::specs::Reporting::rule_line))]
+pub fn put_rule(page: &mut Page, i: u32, j: Judged)
+    requires { length page.old + 122 ≤ 1024 }
+    ensures after { page.new ≡ page.old ++ rule_line i j }
+    ensures short { length page.new ≤ length page.old + 122 }
+{
+    put_tried(page, b"rule", i);
+    put_verdict(page, j);
+    page.put(b"\n");
 }

@@ -1,0 +1,77 @@
+// The text of a report, written piece by piece. For our own crates only: a caller has to see that there is room.
+ghost use Rattle.std.specs.Prelude.{◌≡◌, ◌+◌, ◌≤◌, ◌++◌, [], length};
+ghost use Rattle.rules.specs.Reporting.{decimal, spaced};
+
+use std::marker::Model;
+
+// A text of at most 1,024 bytes, and zeros behind it. A fixed buffer with a length, as the product uses no heap.
+#[derive(Drop)]
+pub struct Page {
+    bytes: [u8; 1024],
+    length: usize,
+}
+
+impl Model for Page {
+    ghost use Rattle.std.specs.Prelude.{ℕ, List, take};
+    ghost use Rattle.reporter.specs.Texts.{Filled};
+
+    ghost Value = { List ℕ };
+
+    ghost view = { λ p. take p.length p.bytes };
+
+    ghost invariant = { λ p. Filled p.length p.bytes };
+}
+
+impl Page {
+    pub fn new() -> Self
+        ensures { result ≡ [] }
+    {
+        Page {
+            bytes: [0; 1024],
+            length: 0,
+        }
+    }
+
+    pub fn text(&self) -> &[u8]
+        ensures { result.now ≡ self.now }
+    {
+        &self.bytes[..self.length]
+    }
+
+    pub fn put(&mut self, text: &[u8])
+        requires { length self.old + length text.now ≤ 1024 }
+        ensures { self.new ≡ self.old ++ text.now }
+    {
+        let end = self.length + text.len();
+        self.bytes[self.length..end].copy_from_slice(text);
+        self.length = end;
+    }
+
+    // The digits, the last one first.
+    pub fn put_number(&mut self, n: u32)
+        requires { length self.old + 10 ≤ 1024 }
+        ensures after { self.new ≡ self.old ++ decimal n }
+        ensures short { length self.new ≤ length self.old + 10 }
+    {
+        let mut digits = [0u8; 10];
+        let mut i: usize = 9;
+        let mut m = n;
+        while 10 <= m {
+            digits[i] = (48 + m % 10) as u8;
+            m /= 10;
+            i -= 1;
+        }
+        digits[i] = (48 + m) as u8;
+        self.put(&digits[i..]);
+    }
+
+    #[tactic(auto, unfolding(rules::specs::Reporting::spaced))]
+    pub fn put_spaced(&mut self, n: u32)
+        requires { length self.old + 11 ≤ 1024 }
+        ensures after { self.new ≡ self.old ++ spaced n }
+        ensures short { length self.new ≤ length self.old + 11 }
+    {
+        self.put(b" ");
+        self.put_number(n);
+    }
+}
