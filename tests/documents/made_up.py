@@ -46,7 +46,7 @@ MADE_UP: list[tuple[str, str, str]] = [
     (TRACE, row(test="nothing"), "nothing"),
     (TRACE, "| a | b |", "| a | b |"),
     (TRACE, "DECISIONS.md, points 1 and 1000", "point 1000"),
-    (PROMISES, "`Flows.machine_of`", "Flows.machine_of"),
+    (PROMISES, "`Runs.ran`", "Runs.ran"),
     (PROMISES, "`Nothing`", "Nothing"),
     (PROMISES, "`crates/nothing`", "crates/nothing"),
     (PROMISES, "`access::fields::fields`", "access::fields::fields"),

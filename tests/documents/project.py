@@ -85,7 +85,7 @@ class Project:
 
     def documents(self) -> list[str]:
         """The documents, but for the page of the port, which sets names that are gone beside those of today."""
-        return [p for p in self.files if p.endswith(".md") and p != "docs/PORT.md"]
+        return [p for p in self.files if p.endswith(".md") and p not in ("docs/PORT.md", "docs/DESIGN-PASS.md")]
 
     def under(self, folder: str, suffix: str) -> list[str]:
         return [p for p in self.files if p.startswith(f"{folder}/") and p.endswith(suffix)]

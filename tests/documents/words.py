@@ -40,6 +40,8 @@ OTHER: dict[str, dict[str, str]] = {
     },
     "docs/DECISIONS.md": {
         "&mut": KIT,
+        "?": KIT,
+        "do": KIT,
         "match": KIT,
         "ensures": KIT,
         "io": KIT,

@@ -23,23 +23,20 @@ use Rattle.CRATE.proofs.Literals.{stepped, unread, words, calling, holding, done
 /// Short names for literal values, none of them a definition of the rules.
 pub const LITERALS: &str = "\
 -- Short names for literal values.
-use Rattle.std.specs.Prelude.{ℕ, List, [], ◌∷◌, ◌++◌}
+use Rattle.std.specs.Prelude.{ℕ, List, [], ◌∷◌, ◌++◌, Some, None, Ok, Err}
 use Rattle.rules.specs.declared.Answer.TheVariants as answer
 use Rattle.rules.specs.declared.Call.{Call}
-use Rattle.rules.specs.declared.Counted.{Counted}
-use Rattle.rules.specs.declared.Counted.TheVariants as counted
 use Rattle.rules.specs.declared.Judged.{Judged}
 use Rattle.rules.specs.declared.Outcome.{Outcome}
-use Rattle.rules.specs.declared.Returned.TheVariants.{NoValue, Given}
 use Rattle.rules.specs.declared.State.{State}
-use Rattle.rules.specs.Accepting.{Lent}
+use Rattle.rules.specs.Accepting.{Counted, Lent}
 use Rattle.rules.specs.Answers.{answer_numbers, state_numbers, judged_numbers}
 
 abbrev pub stepped : ℕ → Counted
-stepped n = counted.Steps n
+stepped n = Ok n
 
 abbrev pub unread : (number place : ℕ) → Counted
-unread n p = counted.Refused (record { number = n; place = p })
+unread n p = Err (record { number = n; place = p })
 
 -- an answer with the lent words after it
 abbrev pub words : {A : Type 0} → A → List ℕ → Lent A
@@ -53,10 +50,10 @@ holding s vs bs w = record { state = s; variables = vs; balances = bs; own = w }
 
 -- completed with no value, completed with a value, refused
 abbrev pub done : (units : ℕ) → State → Outcome
-done u s = record { answer = answer.Completed NoValue u; state = s }
+done u s = record { answer = answer.Completed None u; state = s }
 
 abbrev pub gave : (value units : ℕ) → State → Outcome
-gave x u s = record { answer = answer.Completed (Given x) u; state = s }
+gave x u s = record { answer = answer.Completed (Some x) u; state = s }
 
 abbrev pub denied : (number place units : ℕ) → State → Outcome
 denied n p u s = record { answer = answer.Refused (record { number = n; place = p }) u; state = s }
