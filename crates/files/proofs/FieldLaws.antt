@@ -13,9 +13,12 @@ use lib.Seq.{drop-cons, drop-drop}
 use Rattle.rules.specs.declared.Fields.{Fields}
 use Rattle.rules.specs.Basics.{has, number, padded}
 use Rattle.rules.specs.Reading.{Reading, refused, read, after, pure, refuse, in_range, field, fields, zero_byte, fields_body}
-use Rattle.std.specs.Prelude.{Result, Ok, Err}
+use Rattle.std.specs.Prelude.{Some, Result, Ok, Err}
+use Rattle.std.specs.Ordering.{nat_cmp, partial_le}
+use borrow.Author.Rules.{rules}
 use Rattle.std.specs.Result.{result_and}
 use Rattle.records.specs.declared.fault.Fault.{Fault}
+use Rattle.records.specs.declared.answers.Checked.{Checked}
 use Rattle.records.specs.Checking.{fault_at}
 use Rattle.records.specs.Checking.{Answer, outcome, found, refused_at, no_steps}
 use Rattle.records.proofs.Parts.{has_all, has-few, has-length}
@@ -83,6 +86,10 @@ byte-is i b = go (ltb i (length b)) refl
     go : (t : Bool) → ltb i (length b) ≡ t → get_or b i 0 ≡ value_at 1 i b
     go true e = byte-there i b (ltb-true _ _ e)
     go false e = let h = ltb-false i (length b) e in past i b h ∙ value-short 1 i b (omega arith) (omega arith)
+
+-- what `contains` answers at a..=b
+pub within : (x a b : ℕ) → (partial_le (λ x y. Some (nat_cmp x y)) a x && partial_le (λ x y. Some (nat_cmp x y)) x b) ≡ (leb a x && leb x b)
+within x a b = search rules
 
 -- ---- one field
 
@@ -171,6 +178,29 @@ found-there n i start at body good p (Ok v) {d} {u} x h = go (has n (drop i body
         Ok u ≡ (if t then (if good then Ok tt else Err (fault_at 4 start)) else Err (fault_at 2 (at + i))) → i + n ≤ length body
     go true e h = omega (arith, has-length n (drop i body) e, length-drop i body)
     go false e h = cc
+
+-- what is answered of a field, by what is read of it
+module _ (n i start at : ℕ) (body : List ℕ) where
+  pub field-refused : (good : Bool) {e : Fault} → Err e ≡ outcome no_steps (field n start (at + i) (drop i body)) → Err e ≡ field_answer n i start at body good
+  unfolding field field_answer
+  field-refused good {e} h = go (has n (drop i body)) h
+    where
+      go :
+          (b : Bool) → Err e ≡ outcome no_steps (if b then read (number (take n (drop i body))) (at + i + n) (drop n (drop i body)) else refused 2 (at + i)) →
+          Err e ≡ (if b then (if good then Ok (tt {0}) else Err (fault_at 4 start)) else Err (fault_at 2 (at + i)))
+      go true h = cc
+      go false h = let z : e ≡ fault_at 2 (at + i) = cc in rw z
+
+  pub field-present : {c : Checked} → Ok c ≡ outcome no_steps (field n start (at + i) (drop i body)) → has n (drop i body) ≡ true
+  unfolding field
+  field-present {c} h = go (has n (drop i body)) refl h
+    where
+      go :
+          (b : Bool) → has n (drop i body) ≡ b →
+          Ok c ≡ outcome no_steps (if b then read (number (take n (drop i body))) (at + i + n) (drop n (drop i body)) else refused 2 (at + i)) →
+          has n (drop i body) ≡ true
+      go true e h = e
+      go false e h = cc
 
 -- a zero byte
 pub zero-step :

@@ -1,12 +1,13 @@
 -- What the check makes of an agreement's groups, of its body and of a file.
 -- Assumes nothing.
-use Prim.Native.Nat.{ℕ, ◌+◌, ◌≤◌, ◌<◌}
+use Prim.Native.Nat.{ℕ, ◌+◌, ◌≤◌}
+use mathlib.Core.Bool.{true, false, ◌&&◌}
 use mathlib.Core.Path.{◌≡◌, refl, sym, ap, ◌∙◌}
 use mathlib.Core.List.{List, [], ◌∷◌, map}
 use native.Mathlib.Omega.{arith}
-use lib.Dec.{eqb}
+use lib.Dec.{eqb, leb}
 use lib.ListN.{length}
-use borrow.Author.Tests.{le-leb, lt-leb, eq-eqb, ne_eqb}
+use borrow.Author.Tests.{leb-true, le-leb, eq-eqb, ne_eqb}
 use Rattle.rules.specs.declared.Call.{Call}
 use Rattle.rules.specs.declared.Fields.{Fields}
 use Rattle.rules.specs.Basics.{choose, part, sum}
@@ -15,7 +16,7 @@ use Rattle.rules.specs.Reading.{Reading, refused, read, Reader, after, ◌>>=◌
 use Rattle.rules.specs.Reading.{statement, transition_body, rule_body, row_body, fields_body, agreement_body, read_tree}
 use Rattle.records.specs.Checking.{Answer, outcome, found, refused_at, no_steps, ended, onward, pair}
 use Rattle.records.specs.Counting.{step_count}
-use Rattle.records.proofs.Parts.{Whole, is_whole}
+use Rattle.records.proofs.Parts.{Whole, both, is_whole}
 use Rattle.records.proofs.Readers.{Steady, steady-if, steady-refuse, steady-pair, pair-onward, pair_then}
 use Rattle.records.proofs.Readers.{then_same, then-onward, child-refuses, child-ended}
 use Rattle.records.proofs.StatementLaws.{steady-statement}
@@ -177,15 +178,16 @@ module _ (file : List ℕ) where
   abbrev answer : Answer
   answer = outcome tree_steps (read_tree file)
 
-  pub file-small : length file < 4 → refused_at 1 0 ≡ answer
+  pub file-outside : (leb 4 (length file) && leb (length file) 32768) ≡ false → refused_at 1 0 ≡ answer
   unfolding read_tree
-  file-small h = rw (lt-leb _ _ h)
+  file-outside h = rw h
+
+  pub file-inside : (leb 4 (length file) && leb (length file) 32768) ≡ true → (4 ≤ length file) × (length file ≤ 32768)
+  file-inside h =
+      let b = both (leb 4 (length file)) (leb (length file) 32768) h in
+      (leb-true _ _ b.0, leb-true _ _ b.1)
 
   module _ (four : 4 ≤ length file) where
-    pub file-large : 32768 < length file → refused_at 1 0 ≡ answer
-    unfolding read_tree
-    file-large h = rw (le-leb _ _ four, lt-leb _ _ h)
-
     module _ (fits : length file ≤ 32768) where
       pub file-length : (size_of file ≡ length file → ⊥) → refused_at 1 0 ≡ answer
       unfolding read_tree

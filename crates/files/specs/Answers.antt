@@ -1,5 +1,5 @@
 -- Fields in a row: what stands at a place, and what is answered of it.
-use Rattle.std.specs.Prelude.{ℕ, ◌+◌, Bool, List, length, take, drop, if◌then◌else◌, Result, Ok, Err}
+use Rattle.std.specs.Prelude.{ℕ, ◌+◌, Bool, List, take, drop, if◌then◌else◌, Result, Ok, Err}
 use Rattle.records.specs.declared.fault.Fault.{Fault}
 use Rattle.rules.specs.Basics.{has, number}
 use Rattle.records.specs.Checking.{fault_at}

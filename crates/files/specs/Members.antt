@@ -1,10 +1,11 @@
 -- The members of an agreement's groups: their parts, and how many steps they add.
-use Rattle.std.specs.Prelude.{ℕ, zero, suc, ◌+◌, Bool, ◌&&◌, List, [], ◌∷◌, eqb, ltb, leb, drop, if◌then◌else◌}
+use Rattle.std.specs.Prelude.{◌≡◌, ℕ, zero, suc, ◌+◌, Bool, ◌&&◌, List, [], ◌∷◌, eqb, ltb, leb, drop, if◌then◌else◌}
 use Rattle.rules.specs.Basics.{choose, has}
 use Rattle.rules.specs.Syntax.{Transition}
 use Rattle.rules.specs.Reading.{Reader, ◌>>=◌, ◌>>◌, pure, refuse, in_range, field, zero_byte, size_of, kind_of, whole, child, named, transition_body, rule_body, row_body}
 use Rattle.records.specs.Counting.{step_count}
-use Rattle.files.specs.declared.limits.Limits.{Limits}
+use Rattle.records.specs.declared.part.Part.{Part}
+use Rattle.records.specs.Checking.{Answer, outcome, of_part}
 use Rattle.files.specs.Answers.{value_at}
 
 -- a transition's fields: its name, from and to
@@ -61,6 +62,6 @@ names_in zero bytes = []
 names_in (suc n) bytes =
     if whole bytes && eqb (kind_of bytes) 2 then value_at 1 4 bytes ∷ names_in n (drop (size_of bytes) bytes) else []
 
--- a member of the group of this kind, by what it is tested against
-abbrev pub member_of : Limits → (kind : ℕ) → Reader ℕ
-member_of l kind = member l.states l.variables l.accounts (names_in 64 l.transitions.now) kind
+-- what is answered of bodies is what this reader makes of them
+abbrev pub Reads : (Part → Answer → Type 0) → Reader ℕ → Type 0
+Reads answered r = (b : Part) (a : Answer) → answered b a → a ≡ outcome itself (of_part r b)

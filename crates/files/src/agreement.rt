@@ -6,6 +6,7 @@ ghost use Rattle.files.specs.Trees.{tree_steps};
 
 use crate::fields::check_fields;
 use crate::groups::check_groups;
+use crate::limits::Limits;
 use crate::values::byte;
 use records::answers::Checked;
 use records::fault::Fault;
@@ -15,10 +16,14 @@ use records::statements::check_statement;
 pub fn check_agreement(b: Part) -> Result<Checked, Fault>
     ensures { result ≡ outcome tree_steps (of_part agreement_body b.entry) }
 {
-    let (states, variables, accounts) = (byte(b.bytes, 0), byte(b.bytes, 1), byte(b.bytes, 2));
+    let limits = Limits {
+        states: byte(b.bytes, 0),
+        variables: byte(b.bytes, 1),
+        accounts: byte(b.bytes, 2),
+    };
     let fields = check_fields(b)?;
-    let initial = check_statement(b.after(fields), 15, variables)?;
-    let fallback = check_statement(b.after(initial), 15, variables)?.more(initial.steps);
-    let groups = check_groups(b.after(fallback), states, variables, accounts)?;
+    let initial = check_statement(b.after(fields), 15, limits.variables)?;
+    let fallback = check_statement(b.after(initial), 15, limits.variables)?.more(initial.steps);
+    let groups = check_groups(b.after(fallback), limits)?;
     Ok(groups.more(fallback.steps))
 }

@@ -1,5 +1,5 @@
 // The check of fields. For this crate only: a caller of `field` or `words` has to see that the field is small or begins in the body.
-ghost use Rattle.std.specs.Prelude.{◌≡◌, ◌&&◌, ◌+◌, ◌^◌, ◌<◌, ◌≤◌, length, leb, drop};
+ghost use Rattle.std.specs.Prelude.{◌≡◌, ◌+◌, ◌^◌, ◌<◌, ◌≤◌, length, drop};
 ghost use Rattle.rules.specs.Reading.{fields as fields_of, fields_body};
 ghost use Rattle.records.specs.Checking.{outcome, of_part, no_steps};
 ghost use Rattle.files.specs.Answers.{field_answer};
@@ -9,20 +9,12 @@ use records::answers::Checked;
 use records::fault::{Fault, refused};
 use records::part::Part;
 
-pub fn within(x: usize, least: usize, most: usize) -> bool
-    ensures { result ≡ (leb least x && leb x most) }
-{
-    least <= x && x <= most
-}
-
 // A field of n bytes that stands i bytes into b; `good` says whether its value is in its range.
 pub fn field(b: Part, i: usize, n: usize, good: bool) -> Result<(), Fault>
     requires { (0 < n) × (i + n < 2 ^ 32) }
     ensures { result ≡ field_answer n i b.entry.start b.entry.at b.entry.bytes.now good }
 {
-    if b.bytes.len() < i + n {
-        return Err(refused(2, b.at + i));
-    }
+    b.field(i, n)?;
     if good {
         Ok(())
     } else {
@@ -39,10 +31,7 @@ pub fn words(b: Part, i: usize, k: usize) -> Result<Checked, Fault>
     if whole < k {
         return Err(refused(2, b.at + i + 4 * whole));
     }
-    Ok(Checked {
-        end: b.at + i + 4 * k,
-        steps: 0,
-    })
+    Ok(Checked::at(b.at + i + 4 * k))
 }
 
 // The agreement's own fields.
@@ -51,13 +40,13 @@ pub fn check_fields(b: Part) -> Result<Checked, Fault>
 {
     let states = byte(b.bytes, 0);
     let accounts = byte(b.bytes, 2);
-    field(b, 0, 1, within(states, 1, 64))
+    field(b, 0, 1, (1..=64).contains(&states))
         .and(field(b, 1, 1, byte(b.bytes, 1) <= 16))
-        .and(field(b, 2, 1, within(accounts, 1, 8)))
+        .and(field(b, 2, 1, (1..=8).contains(&accounts)))
         .and(field(b, 3, 1, byte(b.bytes, 3) < states))
         .and(field(b, 4, 1, byte(b.bytes, 4) <= 8))
         .and(field(b, 5, 1, byte(b.bytes, 5) == 0))
-        .and(field(b, 6, 2, within(half(b.bytes, 6), 1, 4096)))
-        .and(field(b, 8, 4, within(word(b.bytes, 8), 1, 1_000_000)))?;
+        .and(field(b, 6, 2, (1..=4096).contains(&half(b.bytes, 6))))
+        .and(field(b, 8, 4, (1..=1_000_000).contains(&word(b.bytes, 8))))?;
     words(b, 12, accounts)
 }

@@ -18,22 +18,17 @@ use crate::agreement::check_agreement;
 use records::answers::Checked;
 use records::bytes::u16_at;
 use records::fault::{Fault, refused};
+use records::kind::Kind;
 use records::part::Part;
 
 pub fn check_file(file: &[u8]) -> Result<Checked, Fault>
     ensures { result ≡ outcome tree_steps (read_tree file.now) }
 {
     let n = file.len();
-    if n < 4 {
+    if !(4..=32768).contains(&n) || u16_at(file, 0) != n {
         return Err(refused(1, 0));
     }
-    if 32768 < n {
-        return Err(refused(1, 0));
-    }
-    if u16_at(file, 0) != n {
-        return Err(refused(1, 0));
-    }
-    if u16_at(file, 2) != 1 {
+    if u16_at(file, 2) != Kind::Agreement.number() {
         return Err(refused(3, 0));
     }
     let whole = Part {

@@ -1,10 +1,9 @@
 // What the members of an agreement's groups are tested against.
 
-// How many states, variables and accounts the agreement has, and the bytes that its transitions begin.
+// How many states, variables and accounts the agreement has.
 #[derive(Clone, Copy)]
-pub struct Limits<'a> {
+pub struct Limits {
     pub states: usize,
     pub variables: usize,
     pub accounts: usize,
-    pub transitions: &'a [u8],
 }

@@ -2,10 +2,9 @@
 ghost use Rattle.std.specs.Prelude.{◌≡◌};
 ghost use Rattle.rules.specs.Reading.{transition_body, row_body, rule_body};
 ghost use Rattle.records.specs.Checking.{outcome, of_part, no_steps};
-ghost use Rattle.files.specs.Members.{transition_head, rule_head, transition_steps, names_in, member_of, itself};
+ghost use Rattle.files.specs.Members.{transition_head, rule_head, transition_steps, names_in};
 
-use crate::fields::{field, within, words};
-use crate::limits::Limits;
+use crate::fields::{field, words};
 use crate::names::is_named;
 use crate::values::{byte, half};
 use records::answers::Checked;
@@ -21,14 +20,11 @@ fn check_transition_head(b: Part, states: usize) -> Result<Checked, Fault>
         .and(field(b, 1, 1, byte(b.bytes, 1) < states))
         .and(field(b, 2, 1, byte(b.bytes, 2) < states))
         .and(field(b, 3, 1, byte(b.bytes, 3) == 0))?;
-    Ok(Checked {
-        end: b.at + 4,
-        steps: 0,
-    })
+    Ok(Checked::at(b.at + 4))
 }
 
 // A transition's guard is a step.
-fn check_transition(b: Part, states: usize, variables: usize) -> Result<Checked, Fault>
+pub fn check_transition(b: Part, states: usize, variables: usize) -> Result<Checked, Fault>
     ensures { result ≡ outcome transition_steps (of_part (transition_body variables states) b.entry) }
 {
     let head = check_transition_head(b, states)?;
@@ -37,7 +33,7 @@ fn check_transition(b: Part, states: usize, variables: usize) -> Result<Checked,
     Ok(action.more(1))
 }
 
-fn check_row(b: Part, accounts: usize) -> Result<Checked, Fault>
+pub fn check_row(b: Part, accounts: usize) -> Result<Checked, Fault>
     ensures { result ≡ outcome no_steps (of_part (row_body accounts) b.entry) }
 {
     field(b, 0, 1, true)
@@ -47,21 +43,19 @@ fn check_row(b: Part, accounts: usize) -> Result<Checked, Fault>
     words(b, 4, 5)
 }
 
-// A rule's fields; the transitions begin with ts.
+// A rule's fields; the transitions begin with ts. A rule's type is a field like any other here: its number is tested, and `access`
+// makes a rule of it.
 fn check_rule_head(b: Part, ts: &[u8]) -> Result<Checked, Fault>
     ensures { result ≡ outcome no_steps (of_part (rule_head (names_in 64 ts.now)) b.entry) }
 {
     let kind = half(b.bytes, 0);
-    field(b, 0, 2, within(kind, 1, 3))
+    field(b, 0, 2, (1..=3).contains(&kind))
         .and(field(b, 2, 1, is_named(ts, kind, byte(b.bytes, 2))))
         .and(field(b, 3, 1, is_named(ts, kind, byte(b.bytes, 3))))?;
-    Ok(Checked {
-        end: b.at + 4,
-        steps: 0,
-    })
+    Ok(Checked::at(b.at + 4))
 }
 
-fn check_rule(b: Part, variables: usize, ts: &[u8]) -> Result<Checked, Fault>
+pub fn check_rule(b: Part, variables: usize, ts: &[u8]) -> Result<Checked, Fault>
     ensures { result ≡ outcome no_steps (of_part (rule_body variables (names_in 64 ts.now)) b.entry) }
 {
     let scope = Scope {
@@ -73,17 +67,5 @@ fn check_rule(b: Part, variables: usize, ts: &[u8]) -> Result<Checked, Fault>
         check_expression(b.after(head), 14, scope)
     } else {
         Ok(head)
-    }
-}
-
-// The body of a transition, 2, a row, 3, or a rule.
-pub fn check_member(b: Part, kind: usize, limits: Limits) -> Result<Checked, Fault>
-    ensures { result ≡ outcome itself (of_part (member_of limits.entry kind) b.entry) }
-{
-    // The kinds stay the file's numbers: the rules name them so.
-    match kind {
-        2 => check_transition(b, limits.states, limits.variables),
-        3 => check_row(b, limits.accounts),
-        _ => check_rule(b, limits.variables, limits.transitions),
     }
 }

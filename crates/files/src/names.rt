@@ -6,16 +6,18 @@ ghost use Rattle.files.specs.Members.{names_in};
 
 use crate::values::byte;
 use records::bytes::{record_len, u16_at};
+use records::kind::Kind;
 
 pub fn is_name(s: &[u8], name: usize) -> bool
     ensures { result ≡ any (eqb name) (names_in 64 s.now) }
 {
+    // Where the next record begins is read from the one before.
     let mut rest = s;
     for _ in 0..64_usize {
         let Some(n) = record_len(rest) else {
             return false;
         };
-        if u16_at(rest, 2) != 2 {
+        if u16_at(rest, 2) != Kind::Transition.number() {
             return false;
         }
         if name == byte(rest, 4) {
@@ -26,7 +28,8 @@ pub fn is_name(s: &[u8], name: usize) -> bool
     false
 }
 
-// Whether p or q of a rule of this type may be n.
+// Whether p or q of a rule of this type may be n. A rule's type is a field like any other here: its number is tested, and `access`
+// makes a rule of it.
 pub fn is_named(s: &[u8], kind: usize, n: usize) -> bool
     ensures { result ≡ named (names_in 64 s.now) kind n }
 {

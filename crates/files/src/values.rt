@@ -12,6 +12,7 @@ pub fn byte(b: &[u8], i: usize) -> usize
     usize::from(b.get(i).copied().unwrap_or(0))
 }
 
+// Two sizes, as the numbers of `records::bytes` are.
 pub fn half(b: &[u8], i: usize) -> usize
     requires { i < 256 }
     ensures { result ≡ value_at 2 i b.now }

@@ -1,8 +1,8 @@
 -- Laws of the reading of expressions: how far it goes, and what the check makes of a record by its length, level and kind.
 -- Assumes nothing.
-use Rattle.std.specs.Prelude.{if◌then◌else◌}
+use Rattle.std.specs.Prelude.{if◌then◌else◌, Err}
 use Prim.Native.Nat.{ℕ, zero, suc, ◌-◌, ◌≤◌}
-use mathlib.Core.Path.{◌≡◌, refl}
+use mathlib.Core.Path.{◌≡◌, refl, sym}
 use mathlib.Core.Bool.{Bool, true, false, ◌&&◌}
 use mathlib.Core.List.{List}
 use native.Mathlib.Omega.{arith}
@@ -10,12 +10,13 @@ use native.Mathlib.Numerals.{sub-one}
 use lib.Dec.{ltb, leb}
 use Rattle.rules.specs.Syntax.{Expr, constant, variable, local, argument, context, binary, not}
 use Rattle.rules.specs.Reading.{refused, Reader, ◌>>=◌, ◌>>◌, pure, refuse, in_range, field, whole, expression_body, expression}
+use Rattle.records.specs.declared.fault.Fault.{Fault}
 use Rattle.records.specs.declared.part.Part.{Part}
 use Rattle.records.specs.declared.part.Record.{Record}
-use Rattle.records.specs.Checking.{Opens, of_part, outcome, no_steps, ended}
+use Rattle.records.specs.Checking.{Opens, Unopened, of_part, outcome, no_steps, ended}
 use Rattle.records.proofs.Readers.{Steady, steady-pure, steady-refuse, steady-first, steady-other, steady-if, steady-range, steady-field, steady_then, steady-child}
 use Rattle.records.proofs.Inversion.{Ends, ends-child, ends-never}
-use Rattle.records.proofs.Readers.{child-short, child-refuses, child-opened}
+use Rattle.records.proofs.Readers.{unopened, child-short, child-refuses, child-opened}
 
 module _ (vars : ℕ) (in_rule : Bool) where
   index : {A : Type 0} {count : A → ℕ} (test : ℕ → Bool) (tree : ℕ → A) → ((i : ℕ) → count (tree i) ≤ 4) → Steady 4 count (field 2 >>= λ i. in_range (test i) >> pure (tree i))
@@ -45,14 +46,20 @@ module _ (vars : ℕ) (in_rule : Bool) where
   ends-expression (suc levels) = ends-child (steady-body 0 (omega arith) (steady-expression levels 0 (omega arith)))
 
   module _ (start at : ℕ) (s : List ℕ) where
-    pub expression-short : (levels : ℕ) → whole s ≡ false → expression vars in_rule levels start at s ≡ refused 2 at
+    expression-short : (levels : ℕ) → whole s ≡ false → expression vars in_rule levels start at s ≡ refused 2 at
     unfolding expression
     expression-short zero h = child-short _ _ _ _ h
     expression-short (suc levels) h = child-short _ _ _ _ h
 
-    pub expression-deep : (levels : ℕ) → levels ≡ 0 → whole s ≡ true → expression vars in_rule levels start at s ≡ refused 5 at
+    expression-deep : (levels : ℕ) → levels ≡ 0 → whole s ≡ true → expression vars in_rule levels start at s ≡ refused 5 at
     unfolding expression refuse
     expression-deep levels e h = rw e (child-refuses _ _ _ _ _ _ h refl)
+
+  -- where its record is not opened
+  pub expression-unopened : (levels : ℕ) (p : Part) {e : Fault} → Unopened p levels e → Err e ≡ outcome no_steps (of_part (expression vars in_rule levels) p)
+  expression-unopened levels p h =
+      let s = p.bytes.now in
+      sym (unopened no_steps (expression vars in_rule levels) p (expression-short p.start p.at s levels) (expression-deep p.start p.at s levels) h)
 
   pub expression-ended :
       (levels : ℕ) → (levels ≡ 0 → ⊥) → (p : Part) (r : Record) → Opens p r →

@@ -1,6 +1,7 @@
 -- What the proofs of several functions, and of other crates, use.
 pub mod Parts
 pub mod Readers
+pub mod KindLaws
 pub mod Inversion
 pub mod ExpressionLaws
 pub mod ExpressionKinds

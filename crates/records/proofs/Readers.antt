@@ -4,6 +4,7 @@ use Rattle.std.specs.Prelude.{if◌then◌else◌}
 use Prim.Native.Nat.{ℕ, ◌+◌, ◌-◌, ◌≤◌, ◌<◌}
 use mathlib.Core.Path.{◌≡◌, refl, sym, ap, ap₂, ◌∙◌}
 use mathlib.Core.Bool.{Bool, true, false}
+use mathlib.Core.Logic.{inl, inr}
 use mathlib.Core.List.{List, [], ◌∷◌}
 use native.Mathlib.Omega.{arith}
 use lib.Dec.{eqb}
@@ -18,8 +19,8 @@ use Rattle.records.specs.declared.fault.Fault.{Fault}
 use Rattle.records.specs.declared.answers.Checked.{Checked}
 use Rattle.records.specs.declared.part.Part.{Part}
 use Rattle.records.specs.declared.part.Record.{Record}
-use Rattle.records.specs.Checking.{Answer, Opens, of_part, outcome, found, no_steps, ended, counted, added, onward, from, ranged, pair}
-use Rattle.records.proofs.Parts.{has-length, part_length, from-drop, Whole, whole-record}
+use Rattle.records.specs.Checking.{Answer, Opens, Unopened, of_part, outcome, found, refused_at, no_steps, ended, counted, added, onward, from, ranged, pair}
+use Rattle.records.proofs.Parts.{has_all, has-length, part_length, from-drop, Whole, whole-record}
 
 -- ---- how far a reader goes
 
@@ -218,6 +219,14 @@ pub added_twice : (i k : ℕ) (a : Answer) → added i (added k a) ≡ added (i 
 added_twice i k (Ok c) = ap (found c.end) (omega arith)
 added_twice i k (Err e) = refl
 
+-- a record that is not opened, by what its reader makes of one that is not whole and of one level too many
+pub unopened :
+    {A : Type 0} (count : A → ℕ) (r : Reader A) (p : Part) {levels : ℕ} {e : Fault} →
+    (whole p.bytes.now ≡ false → of_part r p ≡ refused 2 p.at) → (levels ≡ 0 → whole p.bytes.now ≡ true → of_part r p ≡ refused 5 p.at) →
+    Unopened p levels e → outcome count (of_part r p) ≡ Err e
+unopened count r p short deep (inl h) = rw (h.1) (ap (outcome count) (short h.0))
+unopened count r p short deep (inr h) = rw (h.2) (ap (outcome count) (deep h.0 h.1))
+
 -- where a reader ended that counts no more steps than bytes and k
 pub record Reached (k at n : ℕ) (c : Checked) : Type 0 where
   pub low : at ≤ c.end
@@ -355,3 +364,33 @@ pub child-opened :
 child-opened h p r o =
     let s = p.bytes.now in
     rw (o.end, o.kind, o.start, o.at, o.bytes) (child-ended h p.start p.at (size_of s) (kind_of s) s (whole-record s o.is) refl)
+
+-- no bytes on
+pub none-on : {A : Type 0} (count : A → ℕ) (r : Reader A) (start at : ℕ) (s : List ℕ) → outcome count (r start at s) ≡ outcome count (r start (at + 0) (drop 0 s))
+none-on count r start at s = let z : at ≡ at + 0 = omega arith in ap (λ (at : ℕ). outcome count (r start at s)) z
+
+-- a field of two bytes that was read is there
+pub ranged-present : (start at : ℕ) (s : List ℕ) {c : Checked} → outcome no_steps (field 2 start at s) ≡ Ok c → 2 ≤ length s
+unfolding field
+ranged-present start at s {c} h = go (has 2 s) refl h
+  where
+    go : (b : Bool) → has 2 s ≡ b → outcome no_steps (if b then read (number (take 2 s)) (at + 2) (drop 2 s) else refused 2 at) ≡ Ok c → 2 ≤ length s
+    go true e h = has-length 2 s e
+    go false e h = cc
+
+-- what a test makes of it
+module _ (test : ℕ → Bool) (start at : ℕ) (s : List ℕ) where
+  pub ranged-refused : {e : Fault} → outcome no_steps (field 2 start at s) ≡ Err e → outcome no_steps (ranged test start at s) ≡ Err e
+  unfolding ranged
+  ranged-refused {e} h = rw (gone no_steps (field 2 start at s) h)
+
+  pub ranged-good : {c : Checked} → outcome no_steps (field 2 start at s) ≡ Ok c → test (number (take 2 s)) ≡ true → outcome no_steps (ranged test start at s) ≡ Ok c
+  unfolding ranged field in_range
+  ranged-good {c} h g =
+      let p = has_all 2 s (ranged-present start at s h) in
+      let e : outcome no_steps (field 2 start at s) ≡ found (at + 2) 0 = rw p in
+      rw (p, g) (sym e ∙ h)
+
+  pub ranged-bad : {c : Checked} → outcome no_steps (field 2 start at s) ≡ Ok c → test (number (take 2 s)) ≡ false → outcome no_steps (ranged test start at s) ≡ refused_at 4 start
+  unfolding ranged field in_range refuse
+  ranged-bad {c} h g = rw (has_all 2 s (ranged-present start at s h), g)

@@ -1,14 +1,13 @@
 -- What the check makes of a statement record's body, by its kind, and of its parts.
 -- Assumes nothing.
-use Prim.Native.Nat.{ℕ, ◌+◌, ◌≤◌, ◌<◌}
+use Prim.Native.Nat.{ℕ, ◌+◌, ◌≤◌}
 use mathlib.Core.Path.{◌≡◌, refl, sym, ap, ◌∙◌}
-use mathlib.Core.Bool.{Bool, true, false}
+use mathlib.Core.Bool.{false}
 use mathlib.Core.Logic.{◌⊎◌, inl, inr}
 use mathlib.Core.List.{List}
 use native.Mathlib.Omega.{arith}
 use lib.ListN.{length}
-use lib.Dec.{eqb}
-use borrow.Author.Tests.{ne_eqb, eqb-true, eqb-false}
+use borrow.Author.Tests.{ne_eqb}
 use Rattle.rules.specs.Basics.{choose}
 use Rattle.rules.specs.Syntax.{Expr, Simple, set, transfer, require, return, Stmt, simple, block, if_then, if_else, while}
 use Rattle.rules.specs.Reading.{Reading, read, Reader, after, ◌>>=◌, pure, refuse, statements, expression, placed, set_body, simples, statement_body, loop_set, statement}
@@ -100,17 +99,10 @@ module _ (vars levels start at : ℕ) (s : List ℕ) where
         ∙ ap (added 1) (then_same (e start at s) one two no_steps no_steps λ x m b. then-pure no_steps (transfer x) (e start m b) ∙ sym (then-pure no_steps (λ y. (x, y)) (e start m b))))
 
     -- a require and a return
-    pub value-is : 18 ≤ kind → kind < 20 → answer ≡ added 1 (outcome no_steps (e start at s))
+    pub value-is : (kind ≡ 18) ⊎ (kind ≡ 19) → answer ≡ added 1 (outcome no_steps (e start at s))
     unfolding statement_body simples placed choose
-    value-is l h = go (eqb kind 18) refl
-      where
-        go : (b : Bool) → eqb kind 18 ≡ b → answer ≡ added 1 (outcome no_steps (e start at s))
-        go true q =
-            let k = eqb-true kind 18 q in
-            rw k (one-step start ((e >>= λ x. pure (require x)) start at s) ∙ ap (added 1) (then-pure no_steps require (e start at s)))
-        go false q =
-            let k : kind ≡ 19 = omega (arith, eqb-false kind 18 q) in
-            rw k (one-step start ((e >>= λ x. pure (return x)) start at s) ∙ ap (added 1) (then-pure no_steps return (e start at s)))
+    value-is (inl k) = rw k (one-step start ((e >>= λ x. pure (require x)) start at s) ∙ ap (added 1) (then-pure no_steps require (e start at s)))
+    value-is (inr k) = rw k (one-step start ((e >>= λ x. pure (return x)) start at s) ∙ ap (added 1) (then-pure no_steps return (e start at s)))
 
     pub block-is : kind ≡ 32 → answer ≡ outcome block_count (statements (length s) st start at s)
     unfolding statement_body simples placed choose
@@ -153,8 +145,8 @@ module _ (vars levels start at : ℕ) (s : List ℕ) where
 
     pub other-is :
         (kind ≡ 16 → ⊥) → (kind ≡ 17 → ⊥) → (kind ≡ 18 → ⊥) → (kind ≡ 19 → ⊥) →
-        (kind ≡ 32 → ⊥) → ((kind ≡ 33) ⊎ (kind ≡ 35) → ⊥) → (kind ≡ 34 → ⊥) → (kind ≡ 36 → ⊥) →
+        (kind ≡ 32 → ⊥) → (kind ≡ 33 → ⊥) → (kind ≡ 34 → ⊥) → (kind ≡ 35 → ⊥) → (kind ≡ 36 → ⊥) →
         answer ≡ refused_at 3 start
     unfolding statement_body simples placed choose refuse
-    other-is a b c d f g h j =
-        simp (ne_eqb _ _ a, ne_eqb _ _ b, ne_eqb _ _ c, ne_eqb _ _ d, ne_eqb _ _ f, ne_eqb _ _ (λ k. g (inl k)), ne_eqb _ _ h, ne_eqb _ _ (λ k. g (inr k)), ne_eqb _ _ j)
+    other-is a b c d f g h i j =
+        simp (ne_eqb _ _ a, ne_eqb _ _ b, ne_eqb _ _ c, ne_eqb _ _ d, ne_eqb _ _ f, ne_eqb _ _ g, ne_eqb _ _ h, ne_eqb _ _ i, ne_eqb _ _ j)

@@ -1,7 +1,7 @@
 -- Laws of the reading of statements: how far it goes, and what the check makes of a record by its length, level and kind.
 -- Assumes nothing.
 use Prim.Native.Nat.{ℕ, zero, suc, ◌-◌, ◌≤◌}
-use mathlib.Core.Path.{◌≡◌, refl}
+use mathlib.Core.Path.{◌≡◌, refl, sym}
 use mathlib.Core.Bool.{true, false}
 use mathlib.Core.List.{List}
 use native.Mathlib.Omega.{arith}
@@ -13,13 +13,15 @@ use Rattle.rules.specs.Syntax.{Expr, Simple, set, transfer, require, return}
 use Rattle.rules.specs.Syntax.{Stmt, simple, block, if_then, if_else, while, for, last, ◌then◌}
 use Rattle.rules.specs.Reading.{refused, Reader, ◌>>=◌, pure, self, is_empty, refuse, kind_of, whole, only}
 use Rattle.rules.specs.Reading.{statements, expression, placed, set_body, simples, statement_body, loop_set, statement}
+use Rattle.std.specs.Prelude.{Err}
+use Rattle.records.specs.declared.fault.Fault.{Fault}
 use Rattle.records.specs.declared.part.Part.{Part}
 use Rattle.records.specs.declared.part.Record.{Record}
-use Rattle.records.specs.Checking.{Opens, of_part, outcome, no_steps, ended}
+use Rattle.records.specs.Checking.{Opens, Unopened, of_part, outcome, no_steps, ended}
 use Rattle.records.specs.Counting.{step_count, block_count, target}
 use Rattle.records.proofs.Readers.{Steady, steady-pure, steady-refuse, steady-first, steady-other, steady-peek, steady-if, steady-range, steady-field, steady_then, steady-child}
 use Rattle.records.proofs.Inversion.{Ends, ends-child, ends-never}
-use Rattle.records.proofs.Readers.{child-short, child-refuses, child-opened}
+use Rattle.records.proofs.Readers.{unopened, child-short, child-refuses, child-opened}
 use Rattle.records.proofs.ExpressionLaws.{steady-expression}
 use Rattle.records.proofs.StepCounts.{count-simple, count-last, count-more, count-if, count-else, count-while, count-for}
 
@@ -89,12 +91,12 @@ module _ (vars : ℕ) where
   module _ (start at : ℕ) (bs : List ℕ) where
     -- ---- the record itself
 
-    pub loop-set-short : (levels : ℕ) → whole bs ≡ false → loop_set vars levels start at bs ≡ refused 2 at
+    loop-set-short : (levels : ℕ) → whole bs ≡ false → loop_set vars levels start at bs ≡ refused 2 at
     unfolding loop_set
     loop-set-short zero h = child-short _ _ _ _ h
     loop-set-short (suc levels) h = child-short _ _ _ _ h
 
-    pub loop-set-deep : (levels : ℕ) → levels ≡ 0 → whole bs ≡ true → loop_set vars levels start at bs ≡ refused 5 at
+    loop-set-deep : (levels : ℕ) → levels ≡ 0 → whole bs ≡ true → loop_set vars levels start at bs ≡ refused 5 at
     unfolding loop_set refuse
     loop-set-deep levels e h = rw e (child-refuses _ _ _ _ _ _ h refl)
 
@@ -103,14 +105,26 @@ module _ (vars : ℕ) where
     loop-set-kind zero e h k = absurd (e refl)
     loop-set-kind (suc levels) e h k = child-refuses _ _ _ _ _ _ h (rw (ne_eqb _ _ k))
 
-    pub statement-short : (levels : ℕ) → whole bs ≡ false → statement vars levels start at bs ≡ refused 2 at
+    statement-short : (levels : ℕ) → whole bs ≡ false → statement vars levels start at bs ≡ refused 2 at
     unfolding statement
     statement-short zero h = child-short _ _ _ _ h
     statement-short (suc levels) h = child-short _ _ _ _ h
 
-    pub statement-deep : (levels : ℕ) → levels ≡ 0 → whole bs ≡ true → statement vars levels start at bs ≡ refused 5 at
+    statement-deep : (levels : ℕ) → levels ≡ 0 → whole bs ≡ true → statement vars levels start at bs ≡ refused 5 at
     unfolding statement refuse
     statement-deep levels e h = rw e (child-refuses _ _ _ _ _ _ h refl)
+
+  -- where the record is not opened
+
+  pub loop-set-unopened : (levels : ℕ) (p : Part) {e : Fault} → Unopened p levels e → Err e ≡ outcome no_steps (of_part (loop_set vars levels) p)
+  loop-set-unopened levels p h =
+      let s = p.bytes.now in
+      sym (unopened no_steps (loop_set vars levels) p (loop-set-short p.start p.at s levels) (loop-set-deep p.start p.at s levels) h)
+
+  pub statement-unopened : (levels : ℕ) (p : Part) {e : Fault} → Unopened p levels e → Err e ≡ outcome step_count (of_part (statement vars levels) p)
+  statement-unopened levels p h =
+      let s = p.bytes.now in
+      sym (unopened step_count (statement vars levels) p (statement-short p.start p.at s levels) (statement-deep p.start p.at s levels) h)
 
   module _ (p : Part) (r : Record) (o : Opens p r) where
     pub loop-set-ended :

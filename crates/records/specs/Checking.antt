@@ -1,5 +1,5 @@
 -- A reading as the check answers it, and how answers are put together.
-use Rattle.std.specs.Prelude.{◌≡◌, ℕ, ◌+◌, ◌-◌, Bool, true, List, length, ltb, if◌then◌else◌, Option, Some, None, Result, Ok, Err}
+use Rattle.std.specs.Prelude.{◌≡◌, ◌⊎◌, ℕ, ◌+◌, ◌-◌, Bool, true, false, List, length, ltb, if◌then◌else◌, Option, Some, None, Result, Ok, Err}
 use Rattle.records.specs.declared.fault.Fault.{Fault}
 use Rattle.rules.specs.Basics.{part}
 use Rattle.rules.specs.Reading.{Reading, refused, read, Reader, ◌>>=◌, ◌>>◌, pure, in_range, field, size_of, kind_of, whole}
@@ -41,6 +41,12 @@ pub record Opens (p : Part) (r : Record) : Type 0 where
   pub at : r.body.at ≡ p.at + 4
   pub bytes : r.body.bytes.now ≡ part 4 (size_of p.bytes.now) p.bytes.now
   pub ends : r.body.at + length r.body.bytes.now ≡ r.end
+
+-- why no record is opened in this part where it may hold so many levels: it is not whole, or its level is one too many
+abbrev pub Unopened : (p : Part) (levels : ℕ) → Fault → Type 0
+Unopened p levels e =
+    ((whole p.bytes.now ≡ false) × (e ≡ fault_at 2 p.at))
+    ⊎ ((levels ≡ 0) × (whole p.bytes.now ≡ true) × (e ≡ fault_at 5 p.at))
 
 -- an expression is no step
 abbrev pub no_steps : {A : Type 0} → A → ℕ

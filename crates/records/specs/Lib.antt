@@ -2,3 +2,4 @@
 pub mod Checking
 pub mod Counting
 pub mod Acceptance
+pub mod Kinds

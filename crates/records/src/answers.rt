@@ -12,6 +12,13 @@ pub struct Checked {
 }
 
 impl Checked {
+    // Read up to here, and no steps.
+    pub fn at(end: usize) -> Checked
+        ensures { (result.end ≡ end) × (result.steps ≡ 0) }
+    {
+        Checked { end, steps: 0 }
+    }
+
     // So many steps more.
     pub fn more(self, steps: usize) -> Checked
         requires { steps + self.steps < 2 ^ 64 }

@@ -7,14 +7,14 @@ pub fn u16_at(s: &[u8], i: usize) -> usize
     requires { i + 2 ≤ length s.now }
     ensures { (result ≡ number (take 2 (drop i s.now))) × (result < 65536) }
 {
-    usize::from(s[i]) + 256 * usize::from(s[i + 1])
+    usize::from(u16::from_le_bytes([s[i], s[i + 1]]))
 }
 
 pub fn u32_at(s: &[u8], i: usize) -> u32
     requires { i + 4 ≤ length s.now }
     ensures { result ≡ number (take 4 (drop i s.now)) }
 {
-    (u16_at(s, i) + 65536 * u16_at(s, i + 2)) as u32
+    u32::from_le_bytes([s[i], s[i + 1], s[i + 2], s[i + 3]])
 }
 
 // The length of the record that s begins with; none where it is under 4 or runs past s.
@@ -26,8 +26,5 @@ pub fn record_len(s: &[u8]) -> Option<usize>
         return None;
     }
     let n = u16_at(s, 0);
-    if n < 4 {
-        return None;
-    }
-    if n <= s.len() { Some(n) } else { None }
+    (4..=s.len()).contains(&n).then_some(n)
 }

@@ -1,14 +1,17 @@
 // The check of an expression record.
-ghost use Rattle.std.specs.Prelude.{◌≡◌, false, ◌&&◌, ltb, leb};
-ghost use Rattle.rules.specs.Reading.{field, expression_body, expression};
+ghost use Rattle.std.specs.Prelude.{◌≡◌, ℕ, Bool, false, ◌&&◌, ltb, leb};
+ghost use Rattle.rules.specs.Reading.{expression_body, expression};
 ghost use Rattle.records.specs.Checking.{outcome, of_part, no_steps, ranged};
 
 use crate::answers::Checked;
 use crate::bytes::u16_at;
 use crate::fault::{Fault, refused};
+use crate::kind::Kind;
 use crate::part::Part;
+use std::ops::Range;
 
-// What an expression is checked for: the agreement's number of variables, and whether it is a rule's, which may hold less.
+// What an expression is checked for: the agreement's number of variables, and whether it is a rule's, which may hold less. No enum of
+// the two: both would hold the number of variables.
 #[derive(Clone, Copy)]
 pub struct Scope {
     pub variables: usize,
@@ -19,10 +22,7 @@ pub struct Scope {
 pub fn check_expression(p: Part, levels: usize, scope: Scope) -> Result<Checked, Fault>
     ensures { result ≡ outcome no_steps (of_part (expression scope.variables scope.in_rule levels) p.entry) }
 {
-    let record = p.record()?;
-    if levels == 0 {
-        return Err(refused(5, p.at));
-    }
+    let record = p.opened(levels)?;
     check_body(record.body, record.kind, levels - 1, scope)?.closed(record.end)
 }
 
@@ -41,52 +41,43 @@ pub fn check_value(p: Part, levels: usize, variables: usize) -> Result<Checked, 
 fn check_body(b: Part, kind: usize, levels: usize, scope: Scope) -> Result<Checked, Fault>
     ensures { result ≡ outcome no_steps (of_part (expression_body scope.variables scope.in_rule (expression scope.variables scope.in_rule levels) kind) b.entry) }
 {
-    // The kinds stay the file's numbers: the rules name them so.
+    let Ok(kind) = Kind::try_from(kind) else {
+        return Err(refused(3, b.start));
+    };
     match kind {
-        64 => check_constant(b),
-        65 => check_index(b, 0, scope.variables),
-        66 if !scope.in_rule => check_index(b, 0, 8),
-        67 if !scope.in_rule => check_index(b, 0, 4),
-        68 if scope.in_rule => check_index(b, 2, 4),
-        68 => check_index(b, 0, 4),
-        80 => {
-            let operator = check_index(b, 0, 11)?;
+        Kind::Constant => b.field(0, 4),
+        Kind::Variable => check_index(b, 0..scope.variables),
+        Kind::Local if !scope.in_rule => check_index(b, 0..8),
+        Kind::Argument if !scope.in_rule => check_index(b, 0..4),
+        Kind::Context if scope.in_rule => check_index(b, 2..4),
+        Kind::Context => check_index(b, 0..4),
+        Kind::Binary => {
+            let operator = check_index(b, 0..11)?;
             let left = check_expression(b.after(operator), levels, scope)?;
             check_expression(b.after(left), levels, scope)
         }
-        81 => check_expression(b, levels, scope),
+        Kind::Not => check_expression(b, levels, scope),
         _ => Err(refused(3, b.start)),
     }
 }
 
-fn check_constant(b: Part) -> Result<Checked, Fault>
-    ensures { result ≡ outcome no_steps (of_part (field 4) b.entry) }
+// A 16-bit field in this range.
+#[inline(always)]
+fn check_index(b: Part, range: Range<usize>) -> Result<Checked, Fault>
+    ensures { result ≡ outcome no_steps (of_part (ranged (λ i. leb range.start i && ltb i range.end)) b.entry) }
 {
-    if b.bytes.len() < 4 {
-        return Err(refused(2, b.at));
-    }
-    Ok(Checked {
-        end: b.at + 4,
-        steps: 0,
-    })
+    check_ranged(b, |i| range.contains(&i))
 }
 
-// A 16-bit field from `least` on and below `bound`.
-fn check_index(b: Part, least: usize, bound: usize) -> Result<Checked, Fault>
-    ensures { result ≡ outcome no_steps (of_part (ranged (λ i. leb least i && ltb i bound)) b.entry) }
+// A 16-bit field that passes a test.
+#[inline(always)]
+pub fn check_ranged<F: Fn(usize) -> bool>(b: Part, test: F) -> Result<Checked, Fault>
+    requires { F.IsAlwaysCallable test }
+    ensures { (t : ℕ → Bool) → ((i : ℕ) (good : Bool) → F.post test i good → good ≡ t i) → result ≡ outcome no_steps (of_part (ranged t) b.entry) }
 {
-    if b.bytes.len() < 2 {
-        return Err(refused(2, b.at));
-    }
-    let i = u16_at(b.bytes, 0);
-    if i < least {
-        return Err(refused(4, b.start));
-    }
-    if i < bound {
-        Ok(Checked {
-            end: b.at + 2,
-            steps: 0,
-        })
+    let read = b.field(0, 2)?;
+    if test(u16_at(b.bytes, 0)) {
+        Ok(read)
     } else {
         Err(refused(4, b.start))
     }

@@ -2,11 +2,11 @@
 ghost use Rattle.std.specs.Prelude.{◌≡◌};
 
 // A refusal's number, and its place as wide as the numbers of `Checked`: a result whose halves lie alike is handed back without being
-// taken apart and put together again.
+// taken apart and put together again. The number stays a number: the documents, the C interface and every text call a refusal by it.
 #[derive(Clone, Copy, PartialEq, Eq)]
 pub struct Fault {
-    pub number: u8,
     pub place: usize,
+    pub number: u8,
 }
 
 pub fn refused(number: u8, place: usize) -> Fault

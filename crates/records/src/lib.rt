@@ -5,6 +5,7 @@ pub mod answers;
 pub mod bytes;
 pub mod expressions;
 pub mod fault;
+pub mod kind;
 pub mod part;
 pub mod sets;
 pub mod statements;

@@ -15,7 +15,7 @@ pub struct Part<'a> {
     ghost fits: { at + length bytes.now < 2 ^ 32 },
 }
 
-// A record that comes: its kind, its body, and where it ends.
+// A record that comes: its kind, its body, and where it ends. The kind is its number: the rules' bodies take any, and refuse there.
 #[derive(Clone, Copy)]
 pub struct Record<'a> {
     pub kind: usize,
@@ -25,11 +25,11 @@ pub struct Record<'a> {
 }
 
 impl<'a> Part<'a> {
-    ghost use Rattle.std.specs.Prelude.{false, MatchResult};
+    ghost use Rattle.std.specs.Prelude.{false, MatchResult, drop};
     ghost use Rattle.rules.specs.Basics.{part};
-    ghost use Rattle.rules.specs.Reading.{whole};
-    ghost use Rattle.records.specs.Checking.{fault_at};
-    ghost use Rattle.records.specs.Checking.{from, Opens};
+    ghost use Rattle.rules.specs.Reading.{whole, field as field_of};
+    ghost use Rattle.records.specs.Checking.{fault_at, outcome, no_steps};
+    ghost use Rattle.records.specs.Checking.{from, Opens, Unopened};
 
     // What is left after what was read.
     pub fn after(self, read: Checked) -> Part<'a>
@@ -62,6 +62,18 @@ impl<'a> Part<'a> {
         }
     }
 
+    // A field of n bytes that stands i bytes on: refused where it should begin if it is not whole.
+    #[inline(always)]
+    pub fn field(self, i: usize, n: usize) -> Result<Checked, Fault>
+        requires { (0 < n) × (i + n < 2 ^ 32) }
+        ensures { result ≡ outcome no_steps (field_of n self.entry.start (self.entry.at + i) (drop i self.entry.bytes.now)) }
+    {
+        if self.bytes.len() < i + n {
+            return Err(refused(2, self.at + i));
+        }
+        Ok(Checked::at(self.at + i + n))
+    }
+
     // The record that comes: refused where its length is under 4 or runs past the part.
     pub fn record(self) -> Result<Record<'a>, Fault>
         ensures { MatchResult result (Opens self.entry) (λ e. (whole self.entry.bytes.now ≡ false) × (e ≡ fault_at 2 self.entry.at)) }
@@ -74,5 +86,17 @@ impl<'a> Part<'a> {
             body: self.body(n),
             end: self.at + n,
         })
+    }
+
+    // The same, and it is refused too where no level is left for it.
+    #[inline(always)]
+    pub fn opened(self, levels: usize) -> Result<Record<'a>, Fault>
+        ensures { MatchResult result (λ r. Opens self.entry r × (levels ≡ 0 → ⊥)) (Unopened self.entry levels) }
+    {
+        let record = self.record()?;
+        if levels == 0 {
+            return Err(refused(5, self.at));
+        }
+        Ok(record)
     }
 }

@@ -7,17 +7,18 @@ ghost use Rattle.records.specs.Counting.{step_count, block_count, for_head};
 use crate::answers::Checked;
 use crate::expressions::check_value;
 use crate::fault::{Fault, refused};
+use crate::kind::Kind;
 use crate::part::Part;
 use crate::sets::{check_loop_set, check_set};
 
+// `levels` and `variables` stay apart: the levels are fewer at each record and the variables are not, so a struct of the two would be
+// made anew at each. Its two lines are `check_expression`'s too: one function would take the check of a body as a closure, which two
+// cycles of calls would go through.
 #[cycle(statement)]
 pub fn check_statement(p: Part, levels: usize, variables: usize) -> Result<Checked, Fault>
     ensures { result ≡ outcome step_count (of_part (statement variables levels) p.entry) }
 {
-    let record = p.record()?;
-    if levels == 0 {
-        return Err(refused(5, p.at));
-    }
+    let record = p.opened(levels)?;
     check_body(record.body, record.kind, levels - 1, variables)?.closed(record.end)
 }
 
@@ -25,19 +26,21 @@ pub fn check_statement(p: Part, levels: usize, variables: usize) -> Result<Check
 fn check_body(b: Part, kind: usize, levels: usize, variables: usize) -> Result<Checked, Fault>
     ensures { result ≡ outcome step_count (of_part (statement_body variables (expression variables false levels) (loop_set variables levels) (statement variables levels) kind) b.entry) }
 {
-    // The kinds stay the file's numbers: the rules name them so.
+    let Ok(kind) = Kind::try_from(kind) else {
+        return Err(refused(3, b.start));
+    };
     match kind {
-        16 => Ok(check_set(b, levels, variables)?.more(1)),
-        17 => Ok(check_transfer(b, levels, variables)?.more(1)),
-        18 | 19 => Ok(check_value(b, levels, variables)?.more(1)),
-        32 => check_block(b, levels, variables),
-        33 | 35 => check_if(b, levels, variables),
-        34 => {
+        Kind::Set => Ok(check_set(b, levels, variables)?.more(1)),
+        Kind::Transfer => Ok(check_transfer(b, levels, variables)?.more(1)),
+        Kind::Require | Kind::Return => Ok(check_value(b, levels, variables)?.more(1)),
+        Kind::Block => check_block(b, levels, variables),
+        Kind::If | Kind::While => check_if(b, levels, variables),
+        Kind::IfElse => {
             let first = check_if(b, levels, variables)?;
             let second = check_statement(b.after(first), levels, variables)?;
             Ok(second.more(first.steps))
         }
-        36 => {
+        Kind::For => {
             let head = check_for_head(b, levels, variables)?;
             let body = check_statement(b.after(head), levels, variables)?;
             Ok(body.more(4))

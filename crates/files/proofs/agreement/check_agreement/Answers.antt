@@ -21,33 +21,33 @@ after-requires c =
 pub returns-in_err-initial : goal.returns-in_err-initial
 returns-in_err-initial c =
     let a = c.after.ensures in
-    rw (handed _ _ c.from_residual-in_err-initial.ensures, ← tree-onward _ _ _, ← c.byte-variables.ensures.0, ← c.in_ok-fields.ensures, ← a.bytes, ← a.at, ← a.start, ← c.in_err-initial.ensures)
+    rw (handed _ _ c.from_residual-in_err-initial.ensures, ← tree-onward _ _ _, ← c.byte-2.ensures.0, ← c.in_ok-fields.ensures, ← a.bytes, ← a.at, ← a.start, ← c.in_err-initial.ensures)
 
 pub after-requires-2 : goal.after-requires-2
 after-requires-2 c =
     let a = c.after in
-    let x = reaches (steady-statement c.byte-variables.result 15) a.result.start a.result.at a.result.bytes.now c.in_ok-initial.ensures in
+    let x = reaches (steady-statement c.byte-2.result 15) a.result.start a.result.at a.result.bytes.now c.in_ok-initial.ensures in
     (omega (arith, x.low, a.ensures.goes), omega (arith, x.high, a.ensures.ends))
 
 pub returns-in_err-check_statement : goal.returns-in_err-check_statement
 returns-in_err-check_statement c =
     let a = c.after.ensures in
     let d = c.after-2.ensures in
-    rw (handed _ _ c.from_residual-in_err-check_statement.ensures, ← tree-onward _ _ _, ← c.byte-variables.ensures.0, ← c.in_ok-fields.ensures, ← a.bytes, ← a.at, ← a.start, ← c.in_ok-initial.ensures)
+    rw (handed _ _ c.from_residual-in_err-check_statement.ensures, ← tree-onward _ _ _, ← c.byte-2.ensures.0, ← c.in_ok-fields.ensures, ← a.bytes, ← a.at, ← a.start, ← c.in_ok-initial.ensures)
     (rw (a.start, ← d.bytes, ← d.at, ← d.start, ← c.in_err-check_statement.ensures))
 
 pub more-fallback-requires : goal.more-fallback-requires
 more-fallback-requires c =
     let a = c.after in
     let d = c.after-2 in
-    let x = reaches (steady-statement c.byte-variables.result 15) a.result.start a.result.at a.result.bytes.now c.in_ok-initial.ensures in
-    let y = reaches (steady-statement c.byte-variables.result 15) d.result.start d.result.at d.result.bytes.now c.in_ok-check_statement.ensures in
+    let x = reaches (steady-statement c.byte-2.result 15) a.result.start a.result.at a.result.bytes.now c.in_ok-initial.ensures in
+    let y = reaches (steady-statement c.byte-2.result 15) d.result.start d.result.at d.result.bytes.now c.in_ok-check_statement.ensures in
     omega (arith, x.pays, y.pays, y.high, d.ensures.at, d.ensures.ends, c.args.b.fits)
 
 pub after-requires-3 : goal.after-requires-3
 after-requires-3 c =
     let d = c.after-2 in
-    let y = reaches (steady-statement c.byte-variables.result 15) d.result.start d.result.at d.result.bytes.now c.in_ok-check_statement.ensures in
+    let y = reaches (steady-statement c.byte-2.result 15) d.result.start d.result.at d.result.bytes.now c.in_ok-check_statement.ensures in
     let m = c.more-fallback.ensures in
     (omega (arith, y.low, d.ensures.goes, m.0), omega (arith, y.high, d.ensures.ends, m.0))
 
@@ -58,7 +58,7 @@ returns-in_err-groups c =
     let m = c.more-fallback.ensures in
     let e = c.after-3.ensures in
     let z : c.in_ok-fields.fields.steps + c.in_ok-initial.initial.steps ≡ c.in_ok-initial.initial.steps = omega (arith, no-steps _ c.in_ok-fields.ensures) in
-    rw (handed _ _ c.from_residual-in_err-groups.ensures, ← tree-onward _ _ _, ← c.byte-states.ensures.0, ← c.byte-variables.ensures.0, ← c.byte-accounts.ensures.0)
+    rw (handed _ _ c.from_residual-in_err-groups.ensures, ← tree-onward _ _ _, ← c.byte.ensures.0, ← c.byte-2.ensures.0, ← c.byte-3.ensures.0)
     (rw (← c.in_ok-fields.ensures, ← a.bytes, ← a.at, ← a.start, ← c.in_ok-initial.ensures)
     (rw (z, a.start, ← d.bytes, ← d.at, ← d.start, ← c.in_ok-check_statement.ensures)
     (rw (d.start, ← m.0, ← m.1, ← e.bytes, ← e.at, ← e.start, ← c.in_err-groups.ensures))))
@@ -69,9 +69,9 @@ more-requires c =
     let d = c.after-2 in
     let e = c.after-3 in
     let m = c.more-fallback.ensures in
-    let x = reaches (steady-statement c.byte-variables.result 15) a.result.start a.result.at a.result.bytes.now c.in_ok-initial.ensures in
-    let y = reaches (steady-statement c.byte-variables.result 15) d.result.start d.result.at d.result.bytes.now c.in_ok-check_statement.ensures in
-    let g = steady-groups c.byte-states.result c.byte-variables.result c.byte-accounts.result in
+    let x = reaches (steady-statement c.byte-2.result 15) a.result.start a.result.at a.result.bytes.now c.in_ok-initial.ensures in
+    let y = reaches (steady-statement c.byte-2.result 15) d.result.start d.result.at d.result.bytes.now c.in_ok-check_statement.ensures in
+    let g = steady-groups c.byte.result c.byte-2.result c.byte-3.result in
     let z = reaches g e.result.start e.result.at e.result.bytes.now c.in_ok-groups.ensures in
     omega (arith, x.pays, y.pays, z.pays, z.high, d.ensures.at, m.0, m.1, e.ensures.at, e.ensures.ends, c.args.b.fits)
 
@@ -82,7 +82,7 @@ returns c =
     let m = c.more-fallback.ensures in
     let e = c.after-3.ensures in
     let z : c.in_ok-fields.fields.steps + c.in_ok-initial.initial.steps ≡ c.in_ok-initial.initial.steps = omega (arith, no-steps _ c.in_ok-fields.ensures) in
-    rw (← tree-onward _ _ _, ← c.byte-states.ensures.0, ← c.byte-variables.ensures.0, ← c.byte-accounts.ensures.0)
+    rw (← tree-onward _ _ _, ← c.byte.ensures.0, ← c.byte-2.ensures.0, ← c.byte-3.ensures.0)
     (rw (← c.in_ok-fields.ensures, ← a.bytes, ← a.at, ← a.start, ← c.in_ok-initial.ensures)
     (rw (z, a.start, ← d.bytes, ← d.at, ← d.start, ← c.in_ok-check_statement.ensures)
     (rw (d.start, ← m.0, ← m.1, ← e.bytes, ← e.at, ← e.start, ← c.in_ok-groups.ensures) (ap₂ found c.more.ensures.0 c.more.ensures.1))))

@@ -1,5 +1,6 @@
 -- `check_transition_head` meets its contract.
-use mathlib.Core.Path.{◌≡◌}
+use mathlib.Core.Path.{◌≡◌, ap₂}
+use Rattle.records.specs.Checking.{found}
 use Rattle.records.proofs.Readers.{handed}
 use Rattle.files.proofs.MemberLaws.{head_answers, head-answer}
 use Rattle.files.proofs.members.check_transition_head.Goals as goal
@@ -14,4 +15,4 @@ pub returns : goal.returns
 returns c =
     let b = c.args.b in
     let h : head_answers b.start b.at b.bytes.now c.args.states ≡ c.and-3.result = cc in
-    rw (head-answer _ _ _ _, h, c.in_ok-and.was)
+    rw (head-answer _ _ _ _, h, c.in_ok-and.was) (ap₂ found c.at.ensures.0 c.at.ensures.1)

@@ -18,11 +18,11 @@ pub returns-in_default : goal.returns-in_default
 unfolding any
 returns-in_default c = sym (c.loop.invariant.1 ∙ ap (any (eqb c.args.name)) (names-short c.loop.rest.now (64 - c.loop.counter) (short _ (sym c.in_default.ensures.is))))
 
-pub returns-then-u16_at-ne2 : goal.returns-then-u16_at-ne2
+pub returns-then-u16_at-number : goal.returns-then-u16_at-number
 unfolding any kind_of
-returns-then-u16_at-ne2 c =
+returns-then-u16_at-number c =
     let w = long _ (sym c.in-Some.ensures.is) in
-    sym (c.loop.invariant.1 ∙ ap (any (eqb c.args.name)) (names-other c.loop.rest.now (64 - c.loop.counter) w.is λ e. c.if-u16_at-ne2.true (c.u16_at.ensures.0 ∙ e)))
+    sym (c.loop.invariant.1 ∙ ap (any (eqb c.args.name)) (names-other c.loop.rest.now (64 - c.loop.counter) w.is λ e. c.if-u16_at-number.true (c.u16_at.ensures.0 ∙ e ∙ sym c.number.ensures)))
 
 -- the transition that stands here
 here :
@@ -34,14 +34,14 @@ pub returns-then-name-byte : goal.returns-then-name-byte
 unfolding any kind_of
 returns-then-name-byte c =
     let l = c.loop in
-    let h = here l.rest.now (64 - l.counter) c.in-Some.n c.byte.result (omega arith) (long _ (sym c.in-Some.ensures.is)) (sym c.u16_at.ensures.0 ∙ c.if-u16_at-ne2.false) c.byte.ensures.0 in
+    let h = here l.rest.now (64 - l.counter) c.in-Some.n c.byte.result (omega arith) (long _ (sym c.in-Some.ensures.is)) (sym c.u16_at.ensures.0 ∙ c.if-u16_at-number.false ∙ c.number.ensures) c.byte.ensures.0 in
     sym (l.invariant.1 ∙ ap (any (eqb c.args.name)) h ∙ rw (eq-eqb _ _ c.if-name-byte.true))
 
 pub loop-preserved : goal.loop-preserved
 unfolding any kind_of
 loop-preserved c =
     let l = c.loop in
-    let h = here l.rest.now (64 - l.counter) c.in-Some.n c.byte.result (omega arith) (long _ (sym c.in-Some.ensures.is)) (sym c.u16_at.ensures.0 ∙ c.if-u16_at-ne2.false) c.byte.ensures.0 in
+    let h = here l.rest.now (64 - l.counter) c.in-Some.n c.byte.result (omega arith) (long _ (sym c.in-Some.ensures.is)) (sym c.u16_at.ensures.0 ∙ c.if-u16_at-number.false ∙ c.number.ensures) c.byte.ensures.0 in
     let z : 64 - l.counter - 1 ≡ 64 - (l.counter + 1) = omega arith in
     (omega arith, l.invariant.1 ∙ ap (any (eqb c.args.name)) h ∙ rw (ne_eqb _ _ c.if-name-byte.false) (ap (λ (k : ℕ). any (eqb c.args.name) (names_in k (from c.in-Some.n l.rest.now))) z))
 
