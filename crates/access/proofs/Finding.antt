@@ -1,5 +1,6 @@
 -- Laws of the search among transitions, one more of them at a time.
 -- Assumes nothing.
+use Rattle.std.specs.Prelude.{Some, Ok}
 use Prim.Native.Nat.{ℕ, zero, suc, ◌+◌, ◌≤◌, ◌<◌}
 use mathlib.Core.Path.{◌≡◌, refl, sym, ap, subst, ◌∙◌}
 use mathlib.Core.Bool.{Bool, true, false, ◌||◌}
@@ -15,12 +16,10 @@ use Rattle.rules.specs.Syntax.{Transition, Agreement}
 use Rattle.rules.specs.Accepting.{first_repeat}
 use Rattle.rules.specs.Reading.{size_of}
 use Rattle.rules.specs.Calling.{known, transition_of}
-use Rattle.access.specs.declared.Found.{Found}
-use Rattle.access.specs.declared.Found.TheVariants.{At}
 use Rattle.access.specs.declared.Layout.{Layout}
 use Rattle.access.specs.Trees.{TreeRead}
 use Rattle.access.specs.Places.{past, Laid}
-use Rattle.access.specs.Answers.{found_of, same}
+use Rattle.access.specs.Answers.{Found, found_of, same}
 use Rattle.access.proofs.Bodies.{TransitionAt}
 use Rattle.access.proofs.Items.{transition-items, laid}
 
@@ -38,8 +37,6 @@ module _ {file : List ℕ} {l : Layout} (h : Laid file l) (i : ℕ) (less : i < 
   pub transition_ends : past file l.transitions.at i + number (take 2 (drop (past file l.transitions.at i) file)) ≤ length file
   unfolding size_of
   transition_ends = ((transition-items h.out).item i less).stands.high
-
-pub ruleset transition_bounds = (transition_fits, transition_ends)
 
 module _ {file : List ℕ} {l : Layout} (h : Laid file l) (i at : ℕ) (less : i < l.transitions.count) (e : at ≡ past file l.transitions.at i) where
   pub here : (a : TreeRead file) → Here file a.tree at i
@@ -74,9 +71,9 @@ module _ {file : List ℕ} {a : Agreement} {at i : ℕ} (h : Here file a at i) (
   next : drop i a.transitions ≡ h.value ∷ drop (i + 1) a.transitions
   next = rw add-one h.here
 
-  pub find-here : get_or file (at + 4) 0 ≡ name → get_or file (at + 5) 0 ≡ state → Left b name state (drop i a.transitions) ≡ At at
+  pub find-here : get_or file (at + 4) 0 ≡ name → get_or file (at + 5) 0 ≡ state → Left b name state (drop i a.transitions) ≡ Ok (Some at)
   unfolding any find
-  find-here p q = rw (h.here, eq-eqb _ _ (h.is.name ∙ p), eq-eqb _ _ (h.is.from ∙ q)) (ap At h.is.placed)
+  find-here p q = rw (h.here, eq-eqb _ _ (h.is.name ∙ p), eq-eqb _ _ (h.is.from ∙ q)) (ap (λ (k : ℕ). Ok (Some k)) h.is.placed)
 
   pub find-other :
       get_or file (at + 4) 0 ≡ name → (get_or file (at + 5) 0 ≡ state → ⊥) →

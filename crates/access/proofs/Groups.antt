@@ -6,13 +6,11 @@ use mathlib.Core.Bool.{true, false, false≢true}
 use mathlib.Core.List.{List, [], ◌∷◌}
 use native.Mathlib.Omega.{arith}
 use native.Mathlib.Numerals.{add-one}
-use lib.Dec.{eqb}
 use lib.ListN.{length, take, drop, length-drop}
 use lib.Seq.{drop-drop}
 use Rattle.rules.specs.Basics.{part, number}
-use Rattle.rules.specs.Reading.{read, Reader, size_of, kind_of, child, comes, group}
+use Rattle.rules.specs.Reading.{read, Reader, size_of, child, comes, group}
 use Rattle.records.specs.Checking.{no_steps}
-use Rattle.records.proofs.Parts.{has_all, has-few}
 use Rattle.records.proofs.Readers.{Steady, refused-never, child-read, child-ends}
 use Rattle.access.specs.declared.Group.{Group}
 use Rattle.access.specs.Places.{past, Stands, InRow, comes_at, Children}
@@ -93,18 +91,6 @@ module _ {A : Type 0} (kind : ℕ) (body : Reader A) (steady : Steady 4 no_steps
       (λ c. gives-read [] at s (none_left (suc most) at c))
 
 -- ---- what a loop over them goes by
-
-pub comes-none : (kind at : ℕ) (file : List ℕ) → length file - at < 4 → false ≡ comes_at kind file at
-unfolding comes_at
-comes-none kind at file h =
-    let d : length (drop at file) < 4 = omega (arith, length-drop at file) in
-    rw (has-few 4 (drop at file) d)
-
-pub comes-some : (kind at k : ℕ) (file : List ℕ) → at + 4 ≤ length file → k ≡ number (take 2 (drop (at + 2) file)) → eqb k kind ≡ comes_at kind file at
-unfolding comes_at kind_of
-comes-some kind at k file h e =
-    let d : 4 ≤ length (drop at file) = omega (arith, length-drop at file) in
-    rw (has_all 4 (drop at file) d, e, drop-drop 2 at file)
 
 -- a record that stands at e, and its length n
 pub room : {file : List ℕ} (at i e n : ℕ) → e ≡ past file at i → n ≡ number (take 2 (drop e file)) → Stands file (past file at i) → (4 ≤ n) × (e + n ≤ length file)

@@ -3,12 +3,15 @@
 use Prim.Native.Nat.{ℕ, zero, suc, ◌+◌, ◌-◌, ◌*◌, ◌≤◌, ◌<◌}
 use mathlib.Core.Path.{◌≡◌, refl, sym, ap, ◌∙◌}
 use mathlib.Core.Bool.{true, ◌&&◌}
-use mathlib.Core.List.{List, [], ◌∷◌, ◌++◌}
+use mathlib.Core.Logic.{◌⊎◌, inl, inr}
+use mathlib.Core.List.{List, ◌++◌}
 use native.Mathlib.Omega.{arith}
-use native.Mathlib.Numerals.{add-one}
 use lib.Dec.{leb}
-use lib.ListN.{length, get_or, take, drop, set, replicate}
-use lib.Seq.{append_snoc, set_at}
+use lib.ListN.{length, get_or, get_or-append, take, drop, replicate, length-append, length-replicate}
+use Rattle.std.proofs.lemmas.Bool.{cases_lt}
+use Rattle.std.proofs.lemmas.Grind.{same_number_lists}
+use Rattle.std.proofs.lemmas.List.{get_or-replicate}
+use lib.Seq.{get_or-append_right}
 use borrow.Author.Tests.{ltb-true, leb-true}
 use Rattle.rules.specs.declared.Fields.{Fields}
 use Rattle.rules.specs.Basics.{padded, part, number}
@@ -123,36 +126,39 @@ fields-same {s = s} h hl hb hk ho =
     })
     ∙ sym h.is
 
--- ---- the opening balances, one more at a time
+-- ---- the opening balances, by their places
 
 numbers-length : (k b : ℕ) (s : List ℕ) → length (numbers k b s) ≡ k
 unfolding numbers
 numbers-length zero b s = refl
 numbers-length (suc k) b s = ap suc (numbers-length k (b + 4) s)
 
-numbers_more : (k b : ℕ) (s : List ℕ) → numbers (suc k) b s ≡ numbers k b s ++ (number (take 4 (drop (b + 4 * k) s)) ∷ [])
+numbers-at : (k b i : ℕ) (s : List ℕ) → i < k → get_or (numbers k b s) i 0 ≡ number (take 4 (drop (b + 4 * i) s))
 unfolding numbers
-numbers_more zero b s = let z : b + 4 * 0 ≡ b = omega arith in rw z
-numbers_more (suc k) b s =
-    let z : b + 4 + 4 * k ≡ b + 4 * suc k = omega arith in
-    ap (λ (ys : List ℕ). number (take 4 (drop b s)) ∷ ys) (numbers_more k (b + 4) s ∙ rw z)
+numbers-at zero b i s l = absurd (omega arith)
+numbers-at (suc k) b zero s l = let z : b ≡ b + 4 * 0 = omega arith in ap (λ (j : ℕ). number (take 4 (drop j s))) z
+numbers-at (suc k) b (suc i) s l =
+    let z : b + 4 + 4 * i ≡ b + 4 * suc i = omega arith in
+    numbers-at k (b + 4) i s (omega arith) ∙ ap (λ (j : ℕ). number (take 4 (drop j s))) z
 
-pub padded-none : (s : List ℕ) → padded 8 (numbers 0 16 s) ≡ replicate 8 0
-unfolding padded numbers
-padded-none s = refl
+-- the i-th of them, then zeros
+abbrev pub Balance : (n : ℕ) (s : List ℕ) (i y : ℕ) → Type 0
+Balance n s i y = (i < n → y ≡ number (take 4 (drop (16 + 4 * i) s))) × (n ≤ i → y ≡ 0)
 
-pub padded-more :
-    (i b v : ℕ) (s a : List ℕ) → i < 8 → v ≡ number (take 4 (drop (b + 4 * i) s)) → a ≡ padded 8 (numbers i b s) →
-    set a i v ≡ padded 8 (numbers (i + 1) b s)
+pub balances-are : (n : ℕ) (s ys : List ℕ) → n ≤ 8 → length ys ≡ 8 → ((i : ℕ) → i < 8 → Balance n s i (get_or ys i 0)) → ys ≡ padded 8 (numbers n 16 s)
 unfolding padded
-padded-more i b v s a h e is =
-    let xs = numbers i b s in
-    let l : length xs ≡ i = numbers-length i b s in
-    let z : 8 - length xs ≡ suc (8 - suc i) = omega arith in
-    let m : length (numbers (suc i) b s) ≡ suc i = numbers-length (suc i) b s in
-    let w = 8 - suc i in
-    let left : set a i v ≡ xs ++ v ∷ replicate w 0 =
-    ap (λ (ys : List ℕ). set ys i v) (is ∙ ap (λ (k : ℕ). xs ++ replicate k 0) z) ∙ set_at xs 0 (replicate w 0) v i l in
-    let right : padded 8 (numbers (suc i) b s) ≡ xs ++ v ∷ replicate w 0 =
-    rw (m, numbers_more i b s, ← e) (append_snoc xs v (replicate w 0)) in
-    rw add-one (left ∙ sym right)
+balances-are n s ys few long h = same_number_lists ys (xs ++ replicate (8 - length xs) 0) (omega (arith, l, m)) (λ i less. at i (omega arith) (cases_lt i n))
+  where
+    xs : List ℕ
+    xs = numbers n 16 s
+
+    l : length xs ≡ n
+    l = numbers-length n 16 s
+
+    m : length (xs ++ replicate (8 - length xs) 0) ≡ length xs + (8 - length xs)
+    m = length-append xs (replicate (8 - length xs) 0) ∙ ap (λ k. length xs + k) (length-replicate (8 - length xs) 0)
+
+    at : (i : ℕ) → i < 8 → (i < n) ⊎ (n ≤ i) → get_or ys i 0 ≡ get_or (xs ++ replicate (8 - length xs) 0) i 0
+    at i less (inl k) = (h i less).0 k ∙ sym (get_or-append xs _ 0 i (omega (arith, l)) ∙ numbers-at n 16 i s k)
+    at i less (inr k) =
+        (h i less).1 k ∙ sym (get_or-append_right xs _ i 0 (omega (arith, l)) ∙ get_or-replicate (8 - length xs) (i - length xs) 0 0 (omega (arith, l)))

@@ -57,7 +57,7 @@ module _ {file : List ℕ} (t : TreeRead file) where
   pub initial-is : (k : ℕ) → k ≡ get_or file 6 0 → (16 + 4 * k ≡ found.initial) × (16 + 4 * k + 4 ≤ length file)
   initial-is k e =
       let p = tree-parts t in
-      (omega (arith, p.first, accounts), omega (arith, p.first, accounts, p.initial_stands.low, p.initial_stands.high))
+      (omega (arith, p.out.first, accounts), omega (arith, p.out.first, accounts, p.initial_stands.low, p.initial_stands.high))
 
   pub fallback-is : (b n : ℕ) → b ≡ found.initial → n ≡ number (take 2 (drop b file)) → (b + n ≡ found.fallback) × (b + n + 4 ≤ length file)
   unfolding size_of

@@ -7,6 +7,7 @@ pub mod Bodies
 pub mod Trees
 pub mod Items
 pub mod Layouts
-pub mod Sums
 pub mod Finding
 pub mod Using
+pub mod Kept
+pub mod Calls

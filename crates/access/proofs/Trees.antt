@@ -30,7 +30,6 @@ pub record Parts (file : List ℕ) (a : Agreement) : Type 0 where
   pub head : FieldsAt (length file) file a.fields
   pub layout : Layout
   pub out : LaidOut file a layout
-  pub first : layout.initial ≡ 16 + 4 * a.fields.accounts
   pub initial_stands : Stands file layout.initial
   pub fallback_next : layout.fallback ≡ layout.initial + size_of (drop layout.initial file)
   pub fallback_stands : Stands file layout.fallback
@@ -80,6 +79,7 @@ module _ (file : List ℕ) (small : length file ≤ 32768) where
           rules = record { at = d; count = length rs; end = o };
         };
         out = record {
+          first = refl;
           initial = in-file (statement f.variables 15) 0 b (b + q) file hi;
           fallback = in-file (statement f.variables 15) 0 (b + q) (b + q + p) file he;
           transitions = record { reads = in-file (group 64 2 (transition_body f.variables f.states)) 0 (b + q + p) c file hts; counts = refl };
@@ -89,7 +89,6 @@ module _ (file : List ℕ) (small : length file ≤ 32768) where
           rules_next = refl;
           rules_last = omega (arith, part_length o n file (omega arith));
         };
-        first = refl;
         initial_stands = record { low = fi; high = li };
         fallback_next = refl;
         fallback_stands = record { low = fe; high = le };

@@ -1,7 +1,7 @@
 -- What other crates go by: the bounds of a tree that was read, the actions and conditions at their offsets, and what the
 -- functions' answers say of the tree.
 -- Assumes nothing.
-use Rattle.std.specs.Prelude.{if◌then◌else◌, Ok, Err}
+use Rattle.std.specs.Prelude.{if◌then◌else◌, Some, None, Ok, Err}
 use Prim.Native.Nat.{ℕ, suc, ◌+◌, ◌≤◌, ◌<◌}
 use mathlib.Core.Path.{◌≡◌, refl, sym, ap, subst, ◌∙◌}
 use mathlib.Core.Bool.{Bool, true, false}
@@ -10,7 +10,7 @@ use mathlib.Core.Option.{Option, none, some}
 use native.Mathlib.Omega.{arith}
 use lib.Dec.{ltb}
 use borrow.Author.Tests.{ltb-false}
-use lib.ListN.{length, get_or, get_elem?, drop, length-drop}
+use lib.ListN.{length, get_elem?, drop, length-drop}
 use Rattle.rules.specs.declared.Call.{Call}
 use Rattle.rules.specs.Basics.{given, find, sum, most32}
 use Rattle.rules.specs.Syntax.{Expr, Stmt, Transition, always, Agreement}
@@ -18,12 +18,12 @@ use Rattle.rules.specs.Reading.{Reading, refused, read, expression, statement, r
 use Rattle.rules.specs.Expanding.{expansion}
 use Rattle.rules.specs.declared.Refusal.{Refusal}
 use Rattle.rules.specs.Accepting.{File, bad, good, refusal_at, first_repeat, sized, accept, accepted, file_of, on_file, read_file}
-use Rattle.rules.specs.Calling.{known, transition_of, no_call}
+use Rattle.rules.specs.Calling.{known, transition_of}
 use Rattle.rules.specs.Demands.{All, none, more}
 use Rattle.records.specs.Acceptance.{Accepted, Good}
 use Rattle.records.proofs.ExpressionLaws.{ends-expression}
 use Rattle.records.proofs.StatementLaws.{ends-statement}
-use Rattle.access.specs.declared.Found.TheVariants.{Unknown, Elsewhere, At}
+use Rattle.access.specs.declared.Elsewhere.{Elsewhere}
 use Rattle.access.specs.declared.Group.{Group}
 use Rattle.access.specs.declared.Layout.{Layout}
 use Rattle.access.specs.Trees.{TreeRead, AcceptedFile}
@@ -32,7 +32,7 @@ use Rattle.access.specs.Answers.{found_of, same}
 use Rattle.access.proofs.Heads.{Bounded}
 use Rattle.access.proofs.Trees.{tree-parts}
 use Rattle.access.proofs.Bodies.{TransitionAt}
-use Rattle.access.proofs.Items.{Items, transition-items, row-items, rule-items, laid, row_at, rule-at}
+use Rattle.access.proofs.Items.{Items, transition-items, row-items, rule-items, laid, rule-at}
 
 -- ---- bounds
 
@@ -141,9 +141,6 @@ pub counts :
     (l.transitions.count ≡ length a.tree.transitions) × (l.rows.count ≡ length a.tree.rows) × (l.rules.count ≡ length a.tree.rules)
 counts h a = let o = laid h a in (o.transitions.counts, o.rows.counts, o.rules.counts)
 
-pub row-sender : {file : List ℕ} {l : Layout} (h : Laid file l) (a : TreeRead file) (i : ℕ) → i < l.rows.count → (get_or a.tree.rows i no_call).sender < a.tree.fields.accounts
-row-sender h a i less = (row_at h i less a _ refl).sender_in
-
 -- ---- actions and conditions at their offsets
 
 -- a statement stands at an offset: s are the bytes from there on
@@ -230,23 +227,23 @@ find-all {A} {Q} p {x = y} (more {x = x} {xs = xs} q qs) e = go (p x) (find-all 
     go true k e = let z : x ≡ y = cc in subst Q z q
     go false k e = k e
 
-found_some : (k : Bool) (o : Option Transition) (at : ℕ) → At at ≡ found_of k o → (t : Transition) × (o ≡ some t) × (t.at ≡ at)
+found_some : (k : Bool) (o : Option Transition) (at : ℕ) → Ok (Some at) ≡ found_of k o → (t : Transition) × (o ≡ some t) × (t.at ≡ at)
 found_some k (some t) at h = let z : at ≡ t.at = cc in (t, refl, sym z)
 found_some true none at h = absurd (let z : ◌≡◌ {A = ℕ} 0 1 = cc in omega arith)
 found_some false none at h = absurd (let z : ◌≡◌ {A = ℕ} 0 1 = cc in omega arith)
 
-found_none : (k : Bool) (o : Option Transition) → Elsewhere ≡ found_of k o → (k ≡ true) × (o ≡ none)
+found_none : (k : Bool) (o : Option Transition) {e : Elsewhere} → Err e ≡ found_of k o → (k ≡ true) × (o ≡ none)
 found_none k (some t) h = absurd (let z : ◌≡◌ {A = ℕ} 0 1 = cc in omega arith)
 found_none true none h = (refl, refl)
 found_none false none h = absurd (let z : ◌≡◌ {A = ℕ} 0 1 = cc in omega arith)
 
-found-unknown : (k : Bool) (o : Option Transition) → Unknown ≡ found_of k o → (k ≡ false) × (o ≡ none)
+found-unknown : (k : Bool) (o : Option Transition) → Ok None ≡ found_of k o → (k ≡ false) × (o ≡ none)
 found-unknown k (some t) h = absurd (let z : ◌≡◌ {A = ℕ} 0 1 = cc in omega arith)
 found-unknown true none h = absurd (let z : ◌≡◌ {A = ℕ} 0 1 = cc in omega arith)
 found-unknown false none h = (refl, refl)
 
 module _ {file : List ℕ} (a : TreeRead file) (name state : ℕ) where
-  pub find_at : (at : ℕ) → At at ≡ found_of (known a.tree name) (transition_of a.tree name state) → FoundAt file a.tree name state at
+  pub find_at : (at : ℕ) → Ok (Some at) ≡ found_of (known a.tree name) (transition_of a.tree name state) → FoundAt file a.tree name state at
   unfolding transition_of
   find_at at h =
       let f = a.tree.fields in
@@ -264,10 +261,10 @@ module _ {file : List ℕ} (a : TreeRead file) (name state : ℕ) where
         action = action-read f.variables 14 at (action_at file at) file (few a) w.action;
       }
 
-  pub find-elsewhere : Elsewhere ≡ found_of (known a.tree name) (transition_of a.tree name state) → (known a.tree name ≡ true) × (transition_of a.tree name state ≡ none)
+  pub find-elsewhere : {e : Elsewhere} → Err e ≡ found_of (known a.tree name) (transition_of a.tree name state) → (known a.tree name ≡ true) × (transition_of a.tree name state ≡ none)
   find-elsewhere h = found_none _ _ h
 
-  pub find-unknown : Unknown ≡ found_of (known a.tree name) (transition_of a.tree name state) → (known a.tree name ≡ false) × (transition_of a.tree name state ≡ none)
+  pub find-unknown : Ok None ≡ found_of (known a.tree name) (transition_of a.tree name state) → (known a.tree name ≡ false) × (transition_of a.tree name state ≡ none)
   find-unknown h = found-unknown _ _ h
 
 -- ---- rules

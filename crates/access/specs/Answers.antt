@@ -1,11 +1,12 @@
 -- What the functions answer, from the tree.
-use Rattle.std.specs.Prelude.{ℕ, zero, suc, ◌+◌, Bool, true, false, ◌&&◌, List, [], ◌∷◌, eqb, take, drop, Some, None}
+use Rattle.std.specs.Prelude.{ℕ, zero, suc, ◌+◌, ◌≡◌, Bool, true, false, ◌&&◌, List, [], ◌∷◌, eqb, take, drop, Some, None, Result, Ok, Err}
 use Rattle.std.specs.Prelude
 use Rattle.std.proofs.Math.Option.{Option, none, some}
+use Rattle.rules.specs.declared.Refusal.{Refusal}
 use Rattle.rules.specs.Basics.{number}
 use Rattle.rules.specs.Syntax.{Transition, Rule, always, not_after, only_after}
-use Rattle.access.specs.declared.Found.{Found}
-use Rattle.access.specs.declared.Found.TheVariants.{Unknown, Elsewhere, At}
+use Rattle.rules.specs.Accepting.{refusal}
+use Rattle.access.specs.declared.Elsewhere.{Elsewhere}
 use Rattle.access.specs.declared.RuleAt.{RuleAt}
 use Rattle.access.specs.declared.RuleAt.TheVariants.{Always, NotAfter, OnlyAfter}
 
@@ -14,11 +15,19 @@ unfoldable pub numbers : (k b : ℕ) (bytes : List ℕ) → List ℕ
 numbers zero b bytes = []
 numbers (suc k) b bytes = number (take 4 (drop b bytes)) ∷ numbers k (b + 4) bytes
 
+-- what is found of a name: an offset, or none where no transition bears the name
+abbrev pub Found : Type 0
+Found = Result (Prelude.Option ℕ) Elsewhere
+
+-- a transition bears the name, but none that does leaves the state
+abbrev pub elsewhere : Found
+elsewhere = Err record {}
+
 -- whether a transition bears the name, and the transition of that name from the state
 abbrev pub found_of : (known : Bool) → Option Transition → Found
-found_of known (some t) = At t.at
-found_of true none = Elsewhere
-found_of false none = Unknown
+found_of known (some t) = Ok (Some t.at)
+found_of true none = elsewhere
+found_of false none = Ok None
 
 -- a transition of this name and origin
 abbrev pub same : (name from : ℕ) → Transition → Bool
@@ -34,3 +43,7 @@ abbrev pub rule_from : (at : ℕ) → Rule → RuleAt
 rule_from at (always e) = Always (at + 8)
 rule_from at (not_after p q) = NotAfter p q
 rule_from at (only_after p q) = OnlyAfter p q
+
+-- "22: name known, but not from here."
+abbrev pub Refuses : Elsewhere → Refusal → Type 0
+Refuses e r = r ≡ refusal 22

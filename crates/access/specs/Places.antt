@@ -1,5 +1,5 @@
 -- Where the parts of a file stand.
-use Rattle.std.specs.Prelude.{ℕ, zero, suc, ◌+◌, ◌≤◌, ◌<◌, Bool, true, false, ◌&&◌, List, map, ◌≡◌, eqb, length, drop}
+use Rattle.std.specs.Prelude.{ℕ, zero, suc, ◌+◌, ◌*◌, ◌≤◌, ◌<◌, Bool, true, false, ◌&&◌, List, map, ◌≡◌, eqb, length, drop}
 use Rattle.rules.specs.Basics.{has}
 use Rattle.rules.specs.Syntax.{Transition, Agreement}
 use Rattle.rules.specs.Reading.{read, Reader, size_of, kind_of, group, statement, transition_body, rule_body, row_body}
@@ -46,8 +46,9 @@ pub record Holds {A : Type 0} (most kind : ℕ) (body : Reader A) (file : List �
   pub reads : group most kind body 0 g.at (drop g.at file) ≡ read xs g.end (drop g.end file)
   pub counts : g.count ≡ length xs
 
--- each part of the tree is what is read from its offset on, up to where the next begins
+-- each part of the tree is what is read from its offset on, up to where the next begins; the first stands after the fixed fields
 pub record LaidOut (file : List ℕ) (a : Agreement) (l : Layout) : Type 0 where
+  pub first : l.initial ≡ 16 + 4 * a.fields.accounts
   pub initial : statement a.fields.variables 15 0 l.initial (drop l.initial file) ≡ read a.initial l.fallback (drop l.fallback file)
   pub fallback :
       statement a.fields.variables 15 0 l.fallback (drop l.fallback file)
@@ -59,7 +60,7 @@ pub record LaidOut (file : List ℕ) (a : Agreement) (l : Layout) : Type 0 where
   pub rules_next : l.rules.at ≡ l.rows.end
   pub rules_last : l.rules.end ≡ length file
 
--- a file whose tree was read, with its layout: what the functions that go by the layout ask for
+-- a file whose tree was read, with its layout
 pub record Laid (file : List ℕ) (l : Layout) : Type 0 where
   pub read : TreeRead file
   pub out : LaidOut file read.tree l

@@ -1,7 +1,8 @@
 -- A file that was read.
-use Rattle.std.specs.Prelude.{ℕ, List, ◌≡◌}
+use Rattle.std.specs.Prelude.{ℕ, List, ◌≡◌, length}
 use Rattle.rules.specs.Syntax.{Agreement}
 use Rattle.rules.specs.Reading.{read, read_tree}
+use Rattle.rules.specs.Expanding.{expansion}
 use Rattle.rules.specs.Accepting.{good, file_of}
 
 -- the tree of a file that no refusal from 1 to 5 meets
@@ -15,3 +16,7 @@ pub record TreeRead (file : List ℕ) : Type 0 where
 pub record AcceptedFile (file : List ℕ) : Type 0 where
   pub tree : Agreement
   pub is : file_of file ≡ good tree
+
+-- the file is accepted, and has so many steps
+abbrev pub HasSteps : (file : List ℕ) (n : ℕ) → Type 0
+HasSteps file n = (a : AcceptedFile file) × (n ≡ length (expansion a.tree))

@@ -1,11 +1,16 @@
 // What the layers above need of a file whose tree has been read, so that none of them reads it again. This serves our own crates
-// only: the functions ask that the tree was read, and what they answer is an equation over that tree.
+// only: what the functions answer of a `Parsed` is an equation over that tree.
 #![tactic(auto)]
 
-pub mod entries;
+ghost use Rattle.access.specs.Answers.{Refuses};
+
+mod entries;
 pub mod fields;
+pub mod parsed;
 pub mod places;
 pub mod transitions;
+
+use rules::Refusal;
 
 // Children of one kind in a row: where the first begins, how many they are, and where the last ends.
 #[derive(Clone, Copy)]
@@ -25,13 +30,20 @@ pub struct Layout {
     pub rules: Group,
 }
 
-// What is found of a name: no transition bears it, none of those that do leaves the state, or where the first that does begins.
-#[derive(Clone, Copy)]
-pub enum Found {
-    Unknown,
-    Elsewhere,
-    At(usize),
+// A transition bears the name, but none that does leaves the state: a call is refused.
+#[derive(Clone, Copy, PartialEq, Eq)]
+pub struct Elsewhere;
+
+impl From<Elsewhere> for Refusal {
+    ghost from_gives = { Refuses };
+
+    fn from(_elsewhere: Elsewhere) -> Refusal {
+        Refusal::placeless(22)
+    }
 }
+
+// What is found of a name: where the first transition that bears it and leaves the state begins, or none where no transition bears it.
+pub type Found = Result<Option<usize>, Elsewhere>;
 
 // A rule: where the expression of an `Always` begins, or the names p and q.
 #[derive(Clone, Copy)]

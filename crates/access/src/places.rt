@@ -1,24 +1,26 @@
-// Where the parts of a file begin. For our own crates only: a caller has to see that the tree was read.
+// Where the parts of a file begin.
 ghost use Rattle.std.specs.Prelude.{◌≡◌, ◌≤◌, length};
+ghost use Rattle.records.specs.Kinds.{number_of};
 ghost use Rattle.access.specs.Trees.{TreeRead};
 ghost use Rattle.access.specs.Places.{past, comes_at, InRow, Children, LaidOut};
 
 use crate::{Group, Layout};
 use records::bytes::u16_at;
+use records::kind::Kind;
 
-// Whether a record of this kind begins here. `files` has a test like it on what is left of a record, which the rules ask for there.
-fn comes(file: &[u8], at: usize, kind: usize) -> bool
+// Whether a record of this kind begins here.
+fn comes(file: &[u8], at: usize, kind: Kind) -> bool
     requires { at ≤ length file.now }
-    ensures { result ≡ comes_at kind file.now at }
+    ensures { result ≡ comes_at (number_of kind) file.now at }
 {
-    4 <= file.len() - at && u16_at(file, at + 2) == kind
+    kind.comes(&file[at..])
 }
 
 // The children of this kind from here on.
 #[tactic(auto, using(crate::proofs::Groups::past_more, crate::proofs::Groups::goes_on))]
-fn children(file: &[u8], at: usize, kind: usize) -> Group
-    requires { Children kind file.now at }
-    ensures { (c : Children kind file.now at) → result ≡ record { at = at; count = c.count; end = past file.now at c.count } }
+fn children(file: &[u8], at: usize, kind: Kind) -> Group
+    requires { Children (number_of kind) file.now at }
+    ensures { (c : Children (number_of kind) file.now at) → result ≡ record { at = at; count = c.count; end = past file.now at c.count } }
 {
     let mut end = at;
     let mut count = 0;
@@ -38,9 +40,9 @@ pub fn layout(file: &[u8]) -> Layout
 {
     let initial = 16 + 4 * usize::from(file[6]);
     let fallback = initial + u16_at(file, initial);
-    let transitions = children(file, fallback + u16_at(file, fallback), 2);
-    let rows = children(file, transitions.end, 3);
-    let rules = children(file, rows.end, 4);
+    let transitions = children(file, fallback + u16_at(file, fallback), Kind::Transition);
+    let rows = children(file, transitions.end, Kind::Row);
+    let rules = children(file, rows.end, Kind::Rule);
     Layout {
         initial,
         fallback,

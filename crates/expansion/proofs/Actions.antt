@@ -20,8 +20,8 @@ use Rattle.expander.specs.declared.Next.{Next}
 use Rattle.expander.specs.Writing.{Expanded, Expandable, Expands}
 use Rattle.expander.proofs.Counts.{made-few}
 use Rattle.expander.proofs.Words.{as-steps, then-expanded}
-use Rattle.expansion.specs.Writing.{Writable, action_steps, action_nodes, ActionsWrote}
-use Rattle.expansion.proofs.Files.{has_room}
+use Rattle.expansion.specs.Writing.{action_steps, action_nodes, ActionsWrote}
+use Rattle.expansion.proofs.Files.{Writable, has_room}
 
 -- ---- an action at its offset
 

@@ -1,7 +1,7 @@
 -- Words compared with an expansion.
 -- Assumes nothing.
 use Prim.Native.Nat.{ℕ, ◌*◌}
-use mathlib.Core.Path.{◌≡◌, refl, ap, ◌∙◌}
+use mathlib.Core.Path.{◌≡◌, refl, ap}
 use mathlib.Core.Bool.{Bool, ◌&&◌}
 use mathlib.Core.List.{List, [], ◌∷◌}
 use native.Mathlib.Omega.{arith}
@@ -14,10 +14,7 @@ use Rattle.rules.specs.Syntax.{Agreement}
 use Rattle.rules.specs.Expanding.{expansion, table}
 use Rattle.rules.specs.Accepting.{written}
 use Rattle.rules.specs.Stepping.{begins_with}
-use Rattle.access.specs.Trees.{AcceptedFile}
 use Rattle.expander.proofs.Words.{table-length}
-use Rattle.access.proofs.Using.{same-accepted}
-use Rattle.expansion.specs.Writing.{HasSteps}
 
 -- ---- whether words begin with others
 
@@ -33,9 +30,6 @@ begins-is [] (y ∷ ys) = refl
 begins-is (w ∷ ws) (y ∷ ys) = rw (eqb_comm y w) (ap (λ (b : Bool). eqb w y && b) (begins-is ws ys))
 
 -- ---- an expansion that was written
-
-pub steps-are : {file : List ℕ} {n : ℕ} → HasSteps file n → (a : AcceptedFile file) → n ≡ length (expansion a.tree)
-steps-are p a = p.1 ∙ ap (λ (t : Agreement). length (expansion t)) (same-accepted p.0 a)
 
 pub written-begins : (a : Agreement) (n : ℕ) (ws : List ℕ) → n ≡ length (expansion a) → take (5 * n) (written a ws) ≡ table (expansion a)
 unfolding written

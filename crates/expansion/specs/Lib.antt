@@ -1,2 +1,2 @@
--- What writing the expansion of a file asks and does, in the terms of document 01's expanding.
+-- What writing the expansion of a file does.
 pub mod Writing

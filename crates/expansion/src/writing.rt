@@ -1,25 +1,24 @@
 // The expansion of an accepted file, written into words.
-// For our own crates only: a caller has to see that the file is accepted and that the words have room.
-ghost use Rattle.std.specs.Prelude.{◌≡◌};
+// For our own crates only: a caller has to see that the words have room.
+ghost use Rattle.std.specs.Prelude.{◌≡◌, ◌*◌, ◌≤◌, length};
 ghost use Rattle.rules.specs.Accepting.{written};
 ghost use Rattle.access.specs.Trees.{AcceptedFile};
-ghost use Rattle.access.specs.Places.{Laid};
-ghost use Rattle.expansion.specs.Writing.{Writable, ActionsWrote};
+ghost use Rattle.expansion.specs.Writing.{ActionsWrote};
 
-use access::Layout;
-use access::fields::fields;
-use access::places::layout;
+use access::parsed::Parsed;
 use expander::statements::expand_statement;
 use expander::transitions::expand_transition;
 use expander::{Ends, Next};
+use reader::accepted::Accepted;
 use records::bytes::u16_at;
 
 // The initial action and the fallback.
-fn write_actions(file: &[u8], l: Layout, words: &mut [u32]) -> Next
-    requires { Laid file.now l × Writable file.now words.old }
-    ensures { (a : AcceptedFile file.now) → ActionsWrote a.tree words.old words.new result }
+fn write_actions(accepted: &Accepted, words: &mut [u32]) -> Next
+    requires { 5 * accepted.now.steps ≤ length words.old }
+    ensures { (a : AcceptedFile accepted.now.parsed.file.now) → ActionsWrote a.tree words.old words.new result }
 {
-    let f = fields(file);
+    let parsed = &accepted.parsed;
+    let f = parsed.fields();
     let states = u32::from(f.states);
     let start = u32::from(f.start);
     let initial = Ends {
@@ -36,21 +35,23 @@ fn write_actions(file: &[u8], l: Layout, words: &mut [u32]) -> Next
         node: states + 3,
         step: 0,
     };
-    let i = l.initial;
-    let j = l.fallback;
-    let next = expand_statement(&file[i..], i, initial, words, first);
-    expand_statement(&file[j..], j, fallback, words, next)
+    let i = parsed.layout.initial;
+    let j = parsed.layout.fallback;
+    let next = expand_statement(&parsed.file[i..], i, initial, words, first);
+    expand_statement(&parsed.file[j..], j, fallback, words, next)
 }
 
 // All of the steps: those of the two actions, then those of the transitions in file order.
-pub fn write_expansion(file: &[u8], words: &mut [u32])
-    requires { Writable file.now words.old }
-    ensures { (a : AcceptedFile file.now) → words.new ≡ written a.tree words.old }
+pub fn write_expansion(accepted: &Accepted, words: &mut [u32])
+    requires { 5 * accepted.now.steps ≤ length words.old }
+    ensures { (a : AcceptedFile accepted.now.parsed.file.now) → words.new ≡ written a.tree words.old }
 {
-    let l = layout(file);
-    let mut next = write_actions(file, l, words);
-    let mut at = l.transitions.at;
-    for _ in 0..l.transitions.count {
+    let Parsed { file, layout, .. } = accepted.parsed;
+    let mut next = write_actions(accepted, words);
+    // Where the next record begins is read from the one before. An iterator of records was tried: its proofs were longer than this
+    // loop's.
+    let mut at = layout.transitions.at;
+    for _ in 0..layout.transitions.count {
         next = expand_transition(&file[at..], at, words, next);
         at += u16_at(file, at);
     }

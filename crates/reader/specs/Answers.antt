@@ -1,9 +1,10 @@
--- What reading answers, from a file that was accepted or not.
-use Rattle.std.specs.Prelude.{length, Ok, Err}
-use Rattle.rules.specs.Accepting.{Counted}
-use Rattle.rules.specs.Expanding.{expansion}
-use Rattle.rules.specs.Accepting.{File, on_file}
+-- What reading answers.
+use Rattle.std.specs.Prelude.{ℕ, List, Result, Ok, Err, MatchResult, ◌≡◌}
+use Rattle.rules.specs.declared.Refusal.{Refusal}
+use Rattle.rules.specs.Accepting.{read_file}
+use Rattle.reader.specs.declared.accepted.Accepted.{Accepted}
 
--- the step count of an accepted file, or the refusal
-abbrev pub counted_of : File → Counted
-counted_of f = on_file Err (λ a. Ok (length (expansion a))) f
+-- the file itself, with the step count that reading gives; or the refusal that it gives
+abbrev pub Accepts : (file : List ℕ) → Result Accepted Refusal → Type 0
+Accepts file r =
+    MatchResult r (λ a. (a.parsed.file.now ≡ file) × (Ok a.steps ≡ read_file file)) (λ e. Err e ≡ read_file file)

@@ -1,59 +1,53 @@
-// Reading a file: its refusal, or its step count.
+// Reading a file: its refusal, or the file with its step count.
 #![tactic(auto)]
 
-ghost use Rattle.std.specs.Prelude.{◌≡◌, ◌^◌, ◌<◌};
-ghost use Rattle.rules.specs.Syntax.{Agreement};
-ghost use Rattle.rules.specs.Basics.{sum as sum_of};
-ghost use Rattle.rules.specs.Accepting.{refusal_at, read_file, accept, sized as sized_of};
-ghost use Rattle.files.specs.Trees.{tree_steps};
-ghost use Rattle.access.specs.Trees.{TreeRead};
-ghost use Rattle.reader.specs.Answers.{counted_of};
+pub mod accepted;
 
-use access::fields::{fields, opening_sum};
-use access::places::layout;
-use access::transitions::first_repeat;
+ghost use Rattle.std.specs.Prelude.{◌≡◌, ◌^◌, ◌<◌};
+ghost use Rattle.rules.specs.Accepting.{refusal_at, read_file};
+ghost use Rattle.reader.specs.Answers.{Accepts};
+
+use crate::accepted::Accepted;
+use access::fields::opening_sum;
+use access::parsed::Parsed;
 use files::check_file;
 use rules::{Counted, Refusal};
 
-// Any bytes: the refusal with its number and place, or the step count of an accepted file.
+// Any bytes: the refusal with its number and place, or the accepted file.
+pub fn accept(file: &[u8]) -> Result<Accepted<'_>, Refusal>
+    ensures { Accepts file.now result }
+{
+    let steps = check_file(file)
+        .map_err(|fault| refused(fault.number, fault.place))?
+        .steps;
+    let parsed = Parsed::new(file);
+    if let Some(place) = parsed.first_repeat() {
+        return Err(refused(6, place));
+    }
+    let sum = opening_sum(parsed.fields());
+    if u64::from(u32::MAX) < sum {
+        return Err(Refusal::placeless(7));
+    }
+    if 1024 < steps {
+        return Err(Refusal::placeless(8));
+    }
+    Ok(Accepted { parsed, steps })
+}
+
+// The same, where only the step count is wanted.
 pub fn read(file: &[u8]) -> Counted
     ensures { result ≡ read_file file.now }
 {
-    match check_file(file) {
-        Ok(checked) => accepted(file, checked.steps),
-        Err(fault) => refused(fault.number, fault.place),
-    }
+    Ok(accept(file)?.steps as u32)
 }
 
-fn refused(number: u8, place: usize) -> Counted
+// No `From<Fault>`: a conversion can have no `requires`, and that a place fits 32 bits is known of what `check_file` answers only.
+fn refused(number: u8, place: usize) -> Refusal
     requires { place < 2 ^ 32 }
-    ensures { result ≡ Err (refusal_at number place) }
+    ensures { result ≡ refusal_at number place }
 {
-    Err(Refusal {
+    Refusal {
         number,
         place: place as u32,
-    })
-}
-
-// Refusals 6, 7 and 8, in this order, once the tree was read.
-fn accepted(file: &[u8], steps: usize) -> Counted
-    requires { TreeRead file.now }
-    ensures { (a : TreeRead file.now) → steps ≡ tree_steps a.tree → result ≡ counted_of (accept a.tree) }
-{
-    match first_repeat(file, layout(file)) {
-        Some(p) => refused(6, p),
-        None => sized(opening_sum(fields(file)), steps),
     }
-}
-
-fn sized(sum: u64, steps: usize) -> Counted
-    ensures { (a : Agreement) → sum ≡ sum_of a.fields.opening → steps ≡ tree_steps a → result ≡ counted_of (sized_of a) }
-{
-    if 4294967295 < sum {
-        return refused(7, 0);
-    }
-    if 1024 < steps {
-        return refused(8, 0);
-    }
-    Ok(steps as u32)
 }

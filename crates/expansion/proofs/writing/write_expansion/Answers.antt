@@ -1,37 +1,23 @@
 -- `write_expansion` meets its contract.
-use Prim.Native.Nat.{ℕ, ◌+◌, ◌≤◌}
+use Prim.Native.Nat.{◌+◌, ◌≤◌}
 use mathlib.Core.Path.{refl}
 use native.Mathlib.Omega.{arith}
-use mathlib.Core.List.{List}
 use lib.ListN.{length, take, drop}
 use Rattle.rules.specs.Basics.{number}
-use Rattle.access.specs.declared.Layout.{Layout}
-use Rattle.access.specs.Trees.{TreeRead}
-use Rattle.access.specs.Places.{past, LaidOut, Laid}
+use Rattle.access.specs.Places.{past}
 use Rattle.access.proofs.Groups.{further}
 use Rattle.access.proofs.Finding.{all-passed}
 use Rattle.access.proofs.Using.{tree_of}
-use Rattle.expansion.specs.Writing.{Writable}
-use Rattle.expansion.proofs.Files.{has_room}
+use Rattle.expansion.proofs.Files.{laid-out, has_room}
 use Rattle.expansion.proofs.Transitions.{reached-none, standing-fits, next-ready, next-reached, all-written}
 use Rattle.expansion.proofs.writing.write_expansion.Goals.{In-loop}
 use Rattle.expansion.proofs.writing.write_expansion.Goals as goal
 
--- the file is laid out as the code finds it
-found : {file words : List ℕ} {l : Layout} → Writable file words → ((a : TreeRead file) → LaidOut file a.tree l) → Laid file l
-found p h = let t = tree_of p.accepted in record { read = t; out = h t }
-
 -- the transition that is next is within the file
 fits :
-    (c : In-loop) → let file = c.args.file.now in
+    (c : In-loop) → let file = c.args.accepted.now.parsed.file.now in
     (c.loop.at + 12 ≤ length file) × (c.loop.at + number (take 2 (drop c.loop.at file)) ≤ length file)
-fits c = standing-fits (found c.requires c.layout-l.ensures) c.loop.counter c.loop.at (omega arith) c.loop.invariant.0
-
-pub layout-l-requires : goal.layout-l-requires
-layout-l-requires c = tree_of c.requires.accepted
-
-pub write_actions-next-requires : goal.write_actions-next-requires
-write_actions-next-requires c = (found c.requires c.layout-l.ensures, c.requires)
+fits c = standing-fits (laid-out c.args.accepted.now c.requires).0 c.loop.counter c.loop.at (omega arith) c.loop.invariant.0
 
 pub loop-init : goal.loop-init
 unfolding past
@@ -45,10 +31,10 @@ slice_bounds-expand_transition-start c = omega (arith, fits c)
 
 pub expand_transition-next-requires : goal.expand_transition-next-requires
 expand_transition-next-requires c =
-    let h = found c.requires c.layout-l.ensures in
-    let a = c.requires.accepted in
+    let h = laid-out c.args.accepted.now c.requires in
+    let a = h.1.accepted in
     let w = c.write_actions-next in
-    next-ready h c.requires a (w.ensures a) w.auto.words (omega arith) c.loop.invariant.0 (c.loop.invariant.1 a)
+    next-ready h.0 h.1 a (w.ensures a) w.auto.words (omega arith) c.loop.invariant.0 (c.loop.invariant.1 a)
 
 pub u16_at-at-requires : goal.u16_at-at-requires
 u16_at-at-requires c = omega (arith, fits (goal.at.u16_at-at-requires c).In-loop)
@@ -58,16 +44,16 @@ overflow_add-at c = omega (arith, fits (goal.at.overflow_add-at c).In-loop)
 
 pub loop-preserved : goal.loop-preserved
 loop-preserved c =
-    let h = found c.requires c.layout-l.ensures in
+    let h = laid-out c.args.accepted.now c.requires in
     let w = c.write_actions-next in
     let l = c.loop in (
-      further c.args.file.now _ l.counter l.at c.u16_at-at.result l.invariant.0 c.u16_at-at.ensures.0,
-      λ a. next-reached h c.requires a (w.ensures a) w.auto.words (omega arith) l.invariant.0 (l.invariant.1 a) c.expand_transition-next.ensures,
+      further c.args.accepted.now.parsed.file.now _ l.counter l.at c.u16_at-at.result l.invariant.0 c.u16_at-at.ensures.0,
+      λ a. next-reached h.0 h.1 a (w.ensures a) w.auto.words (omega arith) l.invariant.0 (l.invariant.1 a) c.expand_transition-next.ensures,
     )
 
 pub returns : goal.returns
 returns c =
     λ a.
-    let h = found c.requires c.layout-l.ensures in
-    all-written a.tree (has_room c.requires a) (c.write_actions-next.ensures a) (c.loop.invariant.1 a)
-    (all-passed h (tree_of a) c.loop.counter (omega arith))
+    let h = laid-out c.args.accepted.now c.requires in
+    all-written a.tree (has_room h.1 a) (c.write_actions-next.ensures a) (c.loop.invariant.1 a)
+    (all-passed h.0 (tree_of a) c.loop.counter (omega arith))

@@ -7,16 +7,17 @@ use Rattle.rules.specs.Basics.{any}
 use Rattle.access.specs.Trees.{TreeRead}
 use Rattle.access.specs.Places.{past}
 use Rattle.access.specs.Answers.{same}
+use Rattle.access.proofs.Kept.{laid-of}
 use Rattle.access.proofs.Groups.{further}
 use Rattle.access.proofs.Finding.{Here, here, among-here, among-no-name, among-no-origin}
-use Rattle.access.proofs.transitions.is_among.Goals.{In-loop, else-file-at-via-then-file-at+else-file-at-2, else-file-at-via-else-file-at}
-use Rattle.access.proofs.transitions.is_among.Goals as goal
+use Rattle.access.proofs.parsed.Parsed.is_among.Goals.{In-loop, else-file-at-via-then-file-at+else-file-at-2, else-file-at-via-else-file-at}
+use Rattle.access.proofs.parsed.Parsed.is_among.Goals as goal
 
 -- the transition that is looked at
 one :
-    (c : In-loop) (a : TreeRead c.args.file.now) →
-    Here c.args.file.now a.tree c.loop.at c.loop.counter
-one c a = here c.requires.0 c.loop.counter c.loop.at (omega arith) c.loop.invariant.0 a
+    (c : In-loop) (a : TreeRead c.args.self.now.file.now) →
+    Here c.args.self.now.file.now a.tree c.loop.at c.loop.counter
+one c a = here (laid-of c.args.self.now.laid) c.loop.counter c.loop.at (omega arith) c.loop.invariant.0 a
 
 pub loop-init : goal.loop-init
 unfolding past any
@@ -32,7 +33,7 @@ pub loop-preserved : goal.loop-preserved
 loop-preserved c =
     let v = (goal.at.loop-preserved c).In-loop in
     let s = v.args in (
-      further s.file.now _ v.loop.counter v.loop.at c.u16_at-at.result v.loop.invariant.0 c.u16_at-at.ensures.0,
+      further s.self.now.file.now _ v.loop.counter v.loop.at c.u16_at-at.result v.loop.invariant.0 c.u16_at-at.ensures.0,
       λ a.
           elim c.else-file-at.branch [
             | else-file-at-via-then-file-at+else-file-at-2 w ↦ among-no-origin (one v a) s.n s.name s.from w.if-file-at.true w.if-file-at-2.false (v.loop.invariant.1 a)

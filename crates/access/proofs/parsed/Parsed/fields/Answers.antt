@@ -1,11 +1,12 @@
 -- Each field stands at its place in the file.
 use Rattle.access.proofs.Trees.{tree-parts}
 use Rattle.access.proofs.Heads.{fields-same}
+use Rattle.access.proofs.Kept.{read-of}
 use Rattle.access.proofs.Layouts.{balances}
-use Rattle.access.proofs.fields.fields.Goals as goal
+use Rattle.access.proofs.parsed.Parsed.fields.Goals as goal
 
 pub opening-opening-requires : goal.opening-opening-requires
-opening-opening-requires c = balances c.requires c.from.result c.from.ensures
+opening-opening-requires c = balances (read-of c.args.self.now.laid) c.from.result c.from.ensures
 
 pub returns : goal.returns
 returns c =

@@ -5,7 +5,7 @@ use mathlib.Core.Bool.{false}
 use Rattle.access.specs.Trees.{TreeRead}
 use Rattle.access.specs.Places.{past}
 use Rattle.access.specs.Answers.{same}
-use Rattle.access.proofs.transitions.is_among.Given as goal
+use Rattle.access.proofs.parsed.Parsed.is_among.Given as goal
 
 abbrev pub invariant-loop : goal.invariant-loop
 invariant-loop l =

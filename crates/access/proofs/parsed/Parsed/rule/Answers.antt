@@ -10,20 +10,21 @@ use Rattle.access.specs.Trees.{TreeRead}
 use Rattle.access.specs.Places.{past}
 use Rattle.access.specs.Answers.{rule_from}
 use Rattle.access.proofs.Bodies.{rule_by}
+use Rattle.access.proofs.Kept.{laid-of}
 use Rattle.access.proofs.Items.{rule-before, rule-is}
-use Rattle.access.proofs.entries.rule.Goals.{After-u16_at}
-use Rattle.access.proofs.entries.rule.Goals as goal
+use Rattle.access.proofs.parsed.Parsed.rule.Goals.{After-u16_at}
+use Rattle.access.proofs.parsed.Parsed.rule.Goals as goal
 
 pub nth-at-requires : goal.nth-at-requires
-nth-at-requires c = rule-before c.requires.0 c.args.i c.requires.1
+nth-at-requires c = rule-before (laid-of c.args.self.now.laid) c.args.i c.requires
 
 here :
-    (c : After-u16_at) (a : TreeRead c.args.file.now) →
-    let f = c.args.file.now in
+    (c : After-u16_at) (a : TreeRead c.args.self.now.file.now) →
+    let f = c.args.self.now.file.now in
     let at = c.nth-at.result in
-    get_elem? (map (rule_from (past f c.args.l.rules.at c.args.i)) a.tree.rules) c.args.i
+    get_elem? (map (rule_from (past f c.args.self.now.layout.rules.at c.args.i)) a.tree.rules) c.args.i
     ≡ some (rule_by at c.u16_at.result (get_or f (at + 6) 0) (get_or f (at + 7) 0))
-here c a = rule-is c.requires.0 c.args.i c.requires.1 a c.nth-at.result c.u16_at.result c.nth-at.ensures c.u16_at.ensures.0
+here c a = rule-is (laid-of c.args.self.now.laid) c.args.i c.requires a c.nth-at.result c.u16_at.result c.nth-at.ensures c.u16_at.ensures.0
 
 pub returns-in-1 : goal.returns-in-1
 returns-in-1 c = λ a. here (goal.at.returns-in-1 c).After-u16_at a ∙ rw c.in-1.is

@@ -1,13 +1,14 @@
 -- The numbers of the row's record.
 use mathlib.Core.Path.{sym}
+use Rattle.access.proofs.Kept.{laid-of}
 use Rattle.access.proofs.Items.{row_before, row_at}
-use Rattle.access.proofs.entries.row.Goals as goal
+use Rattle.access.proofs.parsed.Parsed.row.Goals as goal
 
 pub nth-at-requires : goal.nth-at-requires
-nth-at-requires c = row_before c.requires.0 c.args.i c.requires.1
+nth-at-requires c = row_before (laid-of c.args.self.now.laid) c.args.i c.requires
 
 pub returns : goal.returns
 returns c =
     λ a.
     rw (c.u32_at.ensures, c.u32_at-2.ensures, c.u32_at-3.ensures, c.u32_at-4.ensures, c.u32_at-5.ensures)
-    (sym (row_at c.requires.0 c.args.i c.requires.1 a c.nth-at.result c.nth-at.ensures).is)
+    (sym (row_at (laid-of c.args.self.now.laid) c.args.i c.requires a c.nth-at.result c.nth-at.ensures).is)
