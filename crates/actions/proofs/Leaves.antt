@@ -1,10 +1,12 @@
 -- An expression with no parts: how long its record is, which place it names, and its value.
-use Rattle.std.proofs.Common.{◌≡◌, ℕ, ◌≤◌, ◌<◌, List, length, get_or, take, drop, refl, arith}
+use Rattle.std.proofs.Common.{◌≡◌, ℕ, ◌≤◌, ◌<◌, List, length, get_or, take, drop, refl, sym, ◌∙◌, arith}
 use Rattle.std.specs.Prelude.{Some, None}
 use Rattle.rules.specs.Basics.{number}
 use Rattle.rules.specs.Values.{View, evaluate}
 use Rattle.rules.specs.Reading.{kind_of}
 use Rattle.records.specs.Acceptance.{Accepted}
+use Rattle.records.specs.Kinds.{number_of}
+use Rattle.records.specs.declared.kind.Kind.{Kind}
 use Rattle.records.proofs.Accepts as laws
 use Rattle.actions.proofs.Fields.{kind_is, kind_not}
 
@@ -73,6 +75,10 @@ other_value w {s} a b c d e f g h =
 pub kind_read : (s : List ℕ) → kind_of s ≡ kind s
 unfolding kind_of
 kind_read s = refl
+
+-- a number that is no kind's is not this one's
+pub no_kind : (s : List ℕ) {n : ℕ} → n ≡ kind s → ((k : Kind) → number_of k ≡ n → ⊥) → (k : Kind) → kind_of s ≡ number_of k → ⊥
+no_kind s e h k is = h k (sym is ∙ kind_read s ∙ sym e)
 
 pub ruleset leaf_bounds = (accepted_len, constant_len, variable_len, local_len, argument_len, context_len, variable_place, local_place, argument_place, context_place)
 

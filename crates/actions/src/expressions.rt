@@ -1,4 +1,5 @@
-// The value of an expression record. This serves our own crates only: a caller has to see that the bytes were accepted.
+// The value of an expression record. This serves our own crates only: a caller has to see that the bytes were accepted. That stays a
+// clause, as in `statements`.
 ghost use Rattle.std.specs.Prelude.{◌≡◌};
 ghost use Rattle.rules.specs.Reading.{kind_of};
 ghost use Rattle.rules.specs.Values.{evaluate as value_in};
@@ -8,7 +9,23 @@ ghost use Rattle.actions.specs.Views.{seen};
 use crate::View;
 use machine::values::{apply, negation};
 use records::bytes::{u16_at, u32_at};
+use records::kind::Kind;
 use rules::Value;
+
+// The numbers of the kinds, which are not decoded to a `Kind` here: that was tried, and long expressions took a fifth longer.
+const CONSTANT: usize = Kind::Constant as usize;
+
+const VARIABLE: usize = Kind::Variable as usize;
+
+const LOCAL: usize = Kind::Local as usize;
+
+const ARGUMENT: usize = Kind::Argument as usize;
+
+const CONTEXT: usize = Kind::Context as usize;
+
+const BINARY: usize = Kind::Binary as usize;
+
+const NOT: usize = Kind::Not as usize;
 
 #[tactic(auto, using(crate::proofs::Operations::operations))]
 #[cycle(operand)]
@@ -17,15 +34,14 @@ pub fn evaluate(s: &[u8], view: &View) -> Value
     ensures { (a : Accepted s.now) → result ≡ value_in (seen view.now) a.tree }
 {
     let n = u16_at(s, 0);
-    // The kinds stay the file's numbers: the rules name them so.
     match u16_at(s, 2) {
-        80 => {
+        BINARY => {
             let k = 6 + u16_at(s, 6);
             let x = operand(&s[6..n], view)?;
             let y = operand(&s[k..n], view)?;
             apply(u16_at(s, 4), x, y)
         }
-        81 => negation(operand(&s[4..n], view)?),
+        NOT => negation(operand(&s[4..n], view)?),
         _ => leaf(s, view),
     }
 }
@@ -37,7 +53,7 @@ fn operand(s: &[u8], view: &View) -> Value
     requires { Accepted s.now }
     ensures { (a : Accepted s.now) → result ≡ value_in (seen view.now) a.tree }
 {
-    if u16_at(s, 2) < 80 {
+    if u16_at(s, 2) < BINARY {
         leaf(s, view)
     } else {
         evaluate(s, view)
@@ -50,13 +66,12 @@ fn leaf(s: &[u8], view: &View) -> Value
     requires { Accepted s.now × (kind_of s.now ≡ 80 → ⊥) × (kind_of s.now ≡ 81 → ⊥) }
     ensures { (a : Accepted s.now) → result ≡ value_in (seen view.now) a.tree }
 {
-    // The kinds stay the file's numbers: the rules name them so.
     match u16_at(s, 2) {
-        64 => Some(u32_at(s, 4)),
-        65 => Some(view.variables[u16_at(s, 4)]),
-        66 => Some(view.locals[u16_at(s, 4)]),
-        67 => Some(view.arguments[u16_at(s, 4)]),
-        68 => Some(view.context[u16_at(s, 4)]),
+        CONSTANT => Some(u32_at(s, 4)),
+        VARIABLE => Some(view.variables[u16_at(s, 4)]),
+        LOCAL => Some(view.locals[u16_at(s, 4)]),
+        ARGUMENT => Some(view.arguments[u16_at(s, 4)]),
+        CONTEXT => Some(view.context[u16_at(s, 4)]),
         // No other kind is accepted.
         _ => None,
     }

@@ -11,10 +11,12 @@ use crate::expressions::evaluate;
 use machine::run::{answer_value, assign_value, charge, pay_values, require};
 use machine::{Stop, run};
 use records::bytes::u16_at;
+use records::kind::Kind;
 use rules::{Machine, Setting, Value};
 
 // The value of an expression on a machine.
 #[tactic(auto, unfolding(rules::specs::Running::view))]
+#[inline(always)]
 fn value(s: &[u8], m: &Machine, setting: &Setting) -> Value
     requires { Accepted s.now }
     ensures { (a : Accepted s.now) → result ≡ value_in (view setting.now m.now) a.tree }
@@ -39,7 +41,7 @@ pub fn test(s: &[u8], m: &mut Machine, setting: &Setting) -> Result<bool, Stop>
     run::test(value(s, m, setting))
 }
 
-// A transition's guard.
+// A transition's guard. Not one function with `test`: what is made of the value is all that either says.
 pub fn guard(s: &[u8], m: &mut Machine, setting: &Setting) -> Result<(), Stop>
     requires { Accepted s.now }
     ensures { (a : Accepted s.now) → ran result m.new ≡ guarded setting.now a.tree m.old }
@@ -56,20 +58,19 @@ pub fn perform(s: &[u8], m: &mut Machine, setting: &Setting) -> Result<(), Stop>
 {
     charge(m, u32::from(setting.fields.limit))?;
     let end = u16_at(s, 0);
-    // The kinds stay the file's numbers: the rules name them so.
-    match u16_at(s, 2) {
-        16 => {
+    match Kind::try_from(u16_at(s, 2)) {
+        Ok(Kind::Set) => {
             let v = value(&s[6..end], m, setting);
             assign_value(m, u16_at(s, 4), v)
         }
-        17 => {
+        Ok(Kind::Transfer) => {
             let k = 4 + u16_at(s, 4);
             let account = value(&s[4..end], m, setting);
             let amount = value(&s[k..end], m, setting);
             pay_values(m, usize::from(setting.fields.accounts), account, amount)
         }
-        18 => require(value(&s[4..end], m, setting)),
-        19 => {
+        Ok(Kind::Require) => require(value(&s[4..end], m, setting)),
+        Ok(Kind::Return) => {
             let v = value(&s[4..end], m, setting);
             answer_value(m, v)
         }

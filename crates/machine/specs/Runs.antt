@@ -1,6 +1,8 @@
 -- A run as the code has it: its result, or why it stopped, and its machine. And what operations ask of a machine.
-use Rattle.std.specs.Prelude.{ℕ, ◌+◌, ◌≤◌, ◌<◌, length, Bool, ◌⊎◌, if◌then◌else◌, Option, Some, None, Result, Ok, Err}
+use Rattle.std.specs.Prelude.{ℕ, ◌+◌, ◌≤◌, ◌<◌, length, Bool, ◌⊎◌, if◌then◌else◌, Result, Ok, Err}
 use Rattle.rules.specs.declared.Machine.{Machine}
+use Rattle.rules.specs.declared.Refusal.{Refusal}
+use Rattle.rules.specs.Accepting.{refusal}
 use Rattle.rules.specs.Values.{Value}
 use Rattle.rules.specs.Basics.{sum, most32}
 use Rattle.rules.specs.Values.{is_true}
@@ -22,14 +24,11 @@ abbrev pub ran : {A : Type 0} → Result A Stop → Machine → Run A
 ran (Ok a) m = going a m
 ran (Err e) m = stopped_by e m
 
--- the number of the refusal of a run that is refused
-abbrev pub number_of : {A : Type 0} → Result A Stop → Option ℕ
-number_of (Ok a) = None
-number_of (Err Returned) = None
-number_of (Err GuardFalse) = Some 23
-number_of (Err GuardFailed) = Some 24
-number_of (Err ActionFailed) = Some 25
-number_of (Err UnitsUsedUp) = Some 26
+-- how a run ended: it completed, by a return or without one, or it met a refusal
+abbrev pub ending : {A : Type 0} → Run A → Result (Unit {0}) Refusal
+ending (going a m) = Ok tt
+ending (returned m) = Ok tt
+ending (stopped n m) = Err (refusal n)
 
 -- what an assignment may name: a variable or a local
 abbrev pub Target : ℕ → Type 0

@@ -19,6 +19,7 @@ pub fn charge(m: &mut Machine, limit: u32) -> Result<(), Stop>
     Ok(())
 }
 
+// A target is the file's number, a local's from 256 on: an enum of the two would be made and taken apart in this one function.
 #[tactic(auto, unfolding(rules::specs::Running::assign))]
 fn assign(m: &mut Machine, target: usize, x: u32)
     requires { Target target }
@@ -31,11 +32,13 @@ fn assign(m: &mut Machine, target: usize, x: u32)
     }
 }
 
+// What it asks stays two clauses: they are of a machine and of fields, the rules' records, which definitions make freely.
 #[tactic(auto, using(crate::proofs::Sums::entry_most), unfolding(rules::specs::Running::pay, crate::specs::Runs::funds, rules::specs::Basics::most32))]
 fn pay(m: &mut Machine, accounts: usize, account: u32, amount: u32) -> Result<(), Stop>
     requires { (accounts ≤ 8) × Solvent m.old }
     ensures { ran result m.new ≡ paid accounts account amount m.old }
 {
+    // `as`: there is no `From` of a u32 for a usize.
     let k = account as usize;
     if accounts <= k || m.own < amount {
         return Err(Stop::ActionFailed);

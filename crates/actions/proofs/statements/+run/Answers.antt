@@ -5,21 +5,35 @@ use Rattle.records.proofs.GoodBlocks.{moved, turn}
 use Rattle.machine.proofs.Runs.{ran_err}
 use Rattle.machine.proofs.Keeping.{still-funded, kept_same}
 use Rattle.actions.proofs.Fields.{long_is, kind_is}
-use Rattle.actions.proofs.StatementParts.{ifs, elses, whiles, fors, one_is}
+use Rattle.actions.proofs.Leaves.{kind_read}
+use Rattle.actions.proofs.StatementParts.{ifs, elses, whiles, fors, Others, unknown_others, one_step}
 use Rattle.actions.proofs.Runs.{performed_kept, ran_kept, tested_kept, turn_kept, turn_less, closed_kept, closed_less}
 use Rattle.actions.proofs.Blocks.{left, rest_good, rest_over, turn_rest, turn_stops}
 use Rattle.actions.proofs.Branches.{block_runs, step_runs, if_stops, if_holds, if_not, else_stops, else_holds, else_not}
 use Rattle.actions.proofs.Turns.{while-turns, for-turns, loop_ends, test_stops, body_stops, turn_goes, both_stop, both_go, while_ends, while_test_stops, while_body_stops, for_stops, for_goes}
 use Rattle.actions.proofs.statements.+run.Goals as goal
+use Rattle.actions.proofs.statements.+run.Goals.{run_statement-in_default-via-in-Ok+in_default, run_statement-in_default-via-in_default}
 
 -- `run_statement`
 
-pub run_statement-returns-in-32 : goal.run_statement-returns-in-32
-run_statement-returns-in-32 t c = block_runs _ _ _ c.u16_at-end.ensures.0 (kind_is _ c.u16_at.ensures.0 c.in-32.is) c.run_block.ensures
+pub run_statement-returns-in-Ok-Block : goal.run_statement-returns-in-Ok-Block
+run_statement-returns-in-Ok-Block t c = block_runs _ _ _ c.u16_at-end.ensures.0 (kind_is _ c.u16_at.ensures.0 (grind arith)) c.run_block.ensures
+
+pub run_statement-perform-requires : goal.run_statement-perform-requires
+run_statement-perform-requires t c =
+    let h : Others c.args.s.now = elim c.in_default.branch [
+      | run_statement-in_default-via-in-Ok+in_default w ↦ grind (arith, kind_read)
+      | run_statement-in_default-via-in_default w ↦ unknown_others c.args.s.now c.u16_at.ensures.0 (rw w.in_default.is at c.try_from.ensures)
+    ] in
+    ((one_step c.requires.0 h).step, c.requires.1)
 
 pub run_statement-returns-in_default : goal.run_statement-returns-in_default
-run_statement-returns-in_default t c = λ a.
-    step_runs _ _ _ a (one_is a (grind arith) (grind arith) (grind arith) (grind arith) (grind arith)) c.perform.ensures
+run_statement-returns-in_default t c =
+    let h : Others c.args.s.now = elim c.in_default.branch [
+      | run_statement-in_default-via-in-Ok+in_default w ↦ grind (arith, kind_read)
+      | run_statement-in_default-via-in_default w ↦ unknown_others c.args.s.now c.u16_at.ensures.0 (rw w.in_default.is at c.try_from.ensures)
+    ] in
+    λ a. step_runs _ _ _ a (one_step a h) c.perform.ensures
 
 -- `run_if`
 
