@@ -1,27 +1,22 @@
 -- Statements that can be expanded: from a statement to its parts.
 -- Assumes nothing.
-use Prim.Native.Nat.{ℕ, ◌+◌, ◌*◌, ◌^◌, ◌≤◌, ◌<◌}
+use Prim.Native.Nat.{ℕ, ◌+◌, ◌≤◌}
 use mathlib.Core.Path.{◌≡◌, refl, ap, ◌∙◌}
-use mathlib.Core.List.{List}
+use mathlib.Core.List.{List, ◌∷◌}
 use native.Mathlib.Omega.{arith}
-use lib.ListN.{length}
-use Rattle.rules.specs.Basics.{part}
+use lib.ListN.{length, take, drop}
+use Rattle.rules.specs.Basics.{part, number}
 use Rattle.rules.specs.Syntax.{Expr, Simple, Stmt, block, if_then, if_else, while, for}
-use Rattle.rules.specs.Expanding.{made}
+use Rattle.rules.specs.Reading.{size_of}
+use Rattle.rules.specs.Expanding.{Step, step, made, expand}
 use Rattle.records.specs.Counting.{step_count}
 use Rattle.records.proofs.Parts.{part_length}
 use Rattle.records.proofs.StepCounts.{count-if, count-while, count-else, count-for}
-use Rattle.records.proofs.Goods.{Block, Conditional, Alternative, Repetition}
+use Rattle.records.specs.Acceptance.{Good}
+use Rattle.records.proofs.Goods.{Block, Conditional, Alternative, Repetition, if-tree, while-tree}
+use Rattle.expander.specs.declared.Ends.{Ends}
 use Rattle.expander.specs.declared.Next.{Next}
-use Rattle.expander.specs.Writing.{Fit, in_part}
-
--- there is room for one step at least
-pub one-fits : {t : Stmt} {found at : ℕ} {x : Next} {s ws : List ℕ} → made t < step_count t → Fit t found at x s ws → (5 * (x.step + 1) ≤ length ws) × (at < 2 ^ 32)
-one-fits h f = (omega (arith, f.room), omega (arith, f.offsets))
-
--- the same from other numbers that are equal, in words of the same length
-pub refit : {t : Stmt} {found at : ℕ} {x y : Next} {s ws vs : List ℕ} → y.node ≡ x.node → y.step ≡ x.step → length vs ≡ length ws → Fit t found at x s ws → Fit t found at y s vs
-refit p q e f = record { here = f.here; offsets = f.offsets; nodes = omega (arith, f.nodes); room = omega (arith, f.room) }
+use Rattle.expander.specs.Writing.{Fit, GoesBack, of_if, of_while}
 
 -- a statement t in the record, after so many nodes and steps of the whole
 pub part-fit :
@@ -41,13 +36,51 @@ part-fit {s = s} f b m l h p nodes steps e g n k z =
 
 -- ---- nodes of each form
 
-pub made-if : (at : ℕ) (c : Expr) (s : Stmt) → made (if_then at c s) ≡ 1 + made s
-unfolding made
-made-if at c s = refl
+-- the steps of an if or a while, whose part goes on to `back`
+abbrev pub guarded : (at : ℕ) (part : Stmt) (e : Ends) (back n : ℕ) → List Step
+guarded at s e back n = step e.o n 2 0 at ∷ step e.o e.d 3 0 at ∷ expand s n back e.r (n + 1)
 
-pub made-while : (at : ℕ) (c : Expr) (s : Stmt) → made (while at c s) ≡ 1 + made s
-unfolding made
-made-while at c s = refl
+-- a record of one of the two; m is the record's length
+pub record Guarded (m q : ℕ) (s : List ℕ) (found : ℕ) (tree : Stmt) (e : Ends) (back : ℕ) : Type 0 where
+  pub body : Good (part (4 + q) m s)
+  pub body_at : body.at ≡ found + (4 + q)
+  pub eight : 8 ≤ m
+  pub fits : 4 + q ≤ m
+  pub nodes : made tree ≡ 1 + made body.tree
+  pub steps : step_count tree ≡ 2 + step_count body.tree
+  pub is : (n : ℕ) → expand tree e.o e.d e.r n ≡ guarded (found + 4) body.tree e back n
+
+guarded-if : {m q back : ℕ} {s : List ℕ} {found : ℕ} {tree : Stmt} {e : Ends} → back ≡ e.d → Conditional if_then m q s found tree → Guarded m q s found tree e back
+unfolding made expand
+guarded-if {found = found} h x =
+    record {
+      body = x.body;
+      body_at = x.body_at;
+      eight = x.eight;
+      fits = x.fits;
+      nodes = ap made x.is;
+      steps = ap step_count x.is ∙ count-if (found + 4) x.test.tree x.body.tree;
+      is = λ n. rw (x.is, h);
+    }
+
+guarded-while : {m q back : ℕ} {s : List ℕ} {found : ℕ} {tree : Stmt} {e : Ends} → back ≡ e.o → Conditional while m q s found tree → Guarded m q s found tree e back
+unfolding made expand
+guarded-while {found = found} h x =
+    record {
+      body = x.body;
+      body_at = x.body_at;
+      eight = x.eight;
+      fits = x.fits;
+      nodes = ap made x.is;
+      steps = ap step_count x.is ∙ count-while (found + 4) x.test.tree x.body.tree;
+      is = λ n. rw (x.is, h);
+    }
+
+pub guarded-tree :
+    {m back : ℕ} {s : List ℕ} {e : Ends} → m ≡ size_of s → (a : Good s) → GoesBack back e s → (q : ℕ) → q ≡ number (take 2 (drop 4 s)) →
+    Guarded m q s a.at a.tree e back
+guarded-tree long a (of_if k g) q h = guarded-if g (if-tree long a k q h)
+guarded-tree long a (of_while k g) q h = guarded-while g (while-tree long a k q h)
 
 pub made-else : (at : ℕ) (c : Expr) (s t : Stmt) → made (if_else at c s t) ≡ 2 + made s + made t
 unfolding made
@@ -78,17 +111,11 @@ module _ {m : ℕ} {s : List ℕ} (high : m ≤ length s) {tree : Stmt} {found a
   block_fit low p =
       part-fit f 4 m low high p.inner_at 0 0 (omega arith) (omega arith) (omega (arith, ap made p.is)) (omega (arith, ap step_count p.is)) refl
 
-  pub if-fit : {q : ℕ} (p : Conditional if_then m q s found tree) → Fit p.body.tree p.body.at (at + (4 + q)) (in_part x) (part (4 + q) m s) ws
-  if-fit {q} p =
-      let w = ap made p.is ∙ made-if (found + 4) p.test.tree p.body.tree in
-      let z = ap step_count p.is ∙ count-if (found + 4) p.test.tree p.body.tree in
-      part-fit f (4 + q) m p.fits high p.body_at 1 2 refl refl (omega arith) (omega arith) refl
-
-  pub while-fit : {q : ℕ} (p : Conditional while m q s found tree) → Fit p.body.tree p.body.at (at + (4 + q)) (in_part x) (part (4 + q) m s) ws
-  while-fit {q} p =
-      let w = ap made p.is ∙ made-while (found + 4) p.test.tree p.body.tree in
-      let z = ap step_count p.is ∙ count-while (found + 4) p.test.tree p.body.tree in
-      part-fit f (4 + q) m p.fits high p.body_at 1 2 refl refl (omega arith) (omega arith) refl
+  pub guarded-fit :
+      {q back : ℕ} {e : Ends} {y : Next} {vs : List ℕ} → (p : Guarded m q s found tree e back) → y.node ≡ x.node + 1 → y.step ≡ x.step + 2 →
+      length vs ≡ length ws → Fit p.body.tree p.body.at (at + (4 + q)) y (part (4 + q) m s) vs
+  guarded-fit {q} p h g =
+      part-fit f (4 + q) m p.fits high p.body_at 1 2 h g (omega (arith, p.nodes)) (omega (arith, p.steps))
 
   module _ {q p : ℕ} (z : Alternative m q p s found tree) where
     pub yes-fit :

@@ -1,23 +1,21 @@
 -- The expansion of each form of statement, from the writing of its parts.
 -- Assumes nothing.
-use Prim.Native.Nat.{ℕ, ◌+◌, ◌*◌, ◌≤◌}
+use Prim.Native.Nat.{ℕ, ◌+◌}
 use mathlib.Core.Path.{◌≡◌, refl, sym, ap, subst, ◌∙◌}
 use mathlib.Core.List.{List, [], ◌∷◌}
 use native.Mathlib.Omega.{arith}
-use lib.ListN.{length}
-use Rattle.rules.specs.Syntax.{Simple, Stmt, simple, if_then, while}
+use Rattle.rules.specs.Syntax.{Simple, Stmt, simple}
 use Rattle.rules.specs.Reading.{size_of, kind_of}
 use Rattle.rules.specs.Expanding.{step, step_kind, target_of, step_of, made, expand}
-use Rattle.records.specs.Counting.{step_count}
 use Rattle.records.specs.Acceptance.{GoodSet, Good}
 use Rattle.records.proofs.StepCounts.{expand-length}
 use Rattle.records.proofs.Simples.{set-tree, transfer-tree, require-tree, return-tree}
-use Rattle.records.proofs.Goods.{Conditional, Alternative, Repetition, set-step, set-one, transfer-one, require-one, return-one}
+use Rattle.records.proofs.Goods.{Alternative, Repetition, set-step, set-one, transfer-one, require-one, return-one}
 use Rattle.expander.specs.declared.Ends.{Ends}
 use Rattle.expander.specs.declared.Next.{Next}
-use Rattle.expander.specs.Writing.{Wrote, Expanded, Fit, guarded}
+use Rattle.expander.specs.Writing.{Wrote, Expanded, Fit}
 use Rattle.expander.proofs.Words.{rebased, as-statement, wrote_then, then-expanded}
-use Rattle.expander.proofs.Fits.{else-steps, for-steps}
+use Rattle.expander.proofs.Fits.{Guarded, else-steps, for-steps}
 
 -- ---- statements of one step
 
@@ -68,27 +66,17 @@ loop-set-step {s} a at o d r =
 
 -- ---- conditions
 
-pub part-wrote :
-    {t : Stmt} {test back : ℕ} {e b : Ends} {x v y z : Next} {ws vs us : List ℕ} →
+pub guarded-expanded :
+    {m q : ℕ} {s : List ℕ} {tree : Stmt} {found at back : ℕ} {e b : Ends} {x v y z : Next} {ws vs us : List ℕ} →
+    (p : Guarded m q s found tree e back) → Fit tree found at x s ws →
     v.node ≡ x.node + 1 → v.step ≡ x.step → b ≡ record { o = x.node; d = back; r = e.r } →
-    5 * (x.step + 2 + step_count t) ≤ length ws →
-    Wrote (step e.o x.node 2 0 test ∷ step e.o e.d 3 0 test ∷ []) 0 v ws vs y →
-    Expanded t b y vs us z →
-    Wrote (guarded test t e back x.node) (1 + made t) x ws us z
-part-wrote {x = x} n s q h w v = rebased s (omega arith) (then-expanded (x.node + 1) (omega arith) (omega arith) w (rw q at v))
-
-module _ {m : ℕ} {s : List ℕ} {tree : Stmt} {found at : ℕ} {e : Ends} {x y : Next} {ws vs : List ℕ} (here : found ≡ at) where
-  pub if-expanded :
-      {q : ℕ} (p : Conditional if_then m q s found tree) →
-      Wrote (guarded (at + 4) p.body.tree e e.d x.node) (1 + made p.body.tree) x ws vs y → Expanded tree e x ws vs y
-  unfolding expand made
-  if-expanded p w = rw (p.is, here) (as-statement w)
-
-  pub while-expanded :
-      {q : ℕ} (p : Conditional while m q s found tree) →
-      Wrote (guarded (at + 4) p.body.tree e e.o x.node) (1 + made p.body.tree) x ws vs y → Expanded tree e x ws vs y
-  unfolding expand made
-  while-expanded p w = rw (p.is, here) (as-statement w)
+    Wrote (step e.o x.node 2 0 (at + 4) ∷ step e.o e.d 3 0 (at + 4) ∷ []) 0 v ws vs y →
+    Expanded p.body.tree b y vs us z →
+    Expanded tree e x ws us z
+guarded-expanded {tree = tree} {e = e} {x = x} {z = z} {ws} {us = us} p f n h is w v =
+    let k = p.steps in
+    let steps = then-expanded (x.node + 1) (omega arith) (omega (arith, f.room)) w (rw is at v) in
+    as-statement (rw (p.is x.node, p.nodes, f.here) (rebased h (omega arith) steps))
 
 pub else-expanded :
     {m q p : ℕ} {s : List ℕ} {tree : Stmt} {found at : ℕ} {e yes no : Ends} {x v y z w : Next} {ws vs us zs : List ℕ} →

@@ -2,6 +2,7 @@
 pub mod Bounds
 pub mod Words
 pub mod Counts
+pub mod Others
 pub mod Fits
 pub mod Forms
 pub mod Blocks

@@ -10,16 +10,12 @@ use lib.ListN.{length, take, drop, length-append, length-drop, take-append-drop}
 use lib.Seq.{length-take-le, take_at, drop_at, drop-drop}
 use Rattle.rules.specs.Basics.{joined}
 use Rattle.rules.specs.Syntax.{Stmt}
-use Rattle.rules.specs.Expanding.{Step, step, made, expand, words_of, table}
+use Rattle.rules.specs.Expanding.{Step, made, expand, words_of, table}
 use Rattle.records.specs.Counting.{step_count}
 use Rattle.records.proofs.StepCounts.{expand-length}
 use Rattle.expander.specs.declared.Ends.{Ends}
-use denote.Enum.Declared.{tag_of}
-use Rattle.expander.specs.contracts.StepKind.{the_type}
-use Rattle.expander.specs.declared.StepKind.{StepKind}
-use Rattle.expander.specs.declared.StepKind.TheVariants.{Guard, True, False, Set, Transfer, Require, Return}
 use Rattle.expander.specs.declared.Next.{Next}
-use Rattle.expander.specs.Writing.{number_of, over, Wrote, Expanded}
+use Rattle.expander.specs.Writing.{over, Wrote, Expanded}
 
 -- ---- the table of steps
 
@@ -59,22 +55,12 @@ over-over i k a b ws e h =
 
 -- ---- steps over words
 
--- the number that a cast of the kind gives
-pub number-is : (k : StepKind) → tag_of the_type k + 1 ≡ number_of k
-number-is Guard = refl
-number-is True = refl
-number-is False = refl
-number-is Set = refl
-number-is Transfer = refl
-number-is Require = refl
-number-is Return = refl
-
 -- a step's words in place of five, as copying them leaves them
 pub one-over :
-    (i o t k n a m : ℕ) (ws ys : List ℕ) → m ≡ 5 → ys ≡ o ∷ t ∷ k ∷ n ∷ a ∷ [] →
-    put_mid (5 * i) m ws ys ≡ over i (table (step o t k n a ∷ [])) ws
+    (i : ℕ) (s : Step) (m : ℕ) (ws ys : List ℕ) → m ≡ 5 → ys ≡ words_of s →
+    put_mid (5 * i) m ws ys ≡ over i (table (s ∷ [])) ws
 unfolding over table joined words_of
-one-over i o t k n a m ws ys h e = put_mid-paste (5 * i) m ws ys (o ∷ t ∷ k ∷ n ∷ a ∷ []) 5 e (sym h) refl
+one-over i s m ws ys h e = put_mid-paste (5 * i) m ws ys (words_of s) 5 e (sym h) refl
 
 pub steps-length : (i : ℕ) (a : List Step) (ws : List ℕ) → 5 * (i + length a) ≤ length ws → length (over i (table a) ws) ≡ length ws
 steps-length i a ws h = over-length i (table a) ws (omega (arith, table-length a))
@@ -105,16 +91,17 @@ wrote_none x ws =
     }
 
 pub wrote-two :
-    {p q : Step} {x r : Next} {ws vs us : List ℕ} →
-    5 * (x.step + 2) ≤ length ws →
+    {p q y z : Step} {x r : Next} {ws vs us : List ℕ} →
+    5 * (x.step + 2) ≤ length ws → p ≡ y → q ≡ z →
     vs ≡ over x.step (table (p ∷ [])) ws → us ≡ over (x.step + 1) (table (q ∷ [])) vs → r.node ≡ x.node → r.step ≡ x.step + 2 →
-    Wrote (p ∷ q ∷ []) 0 x ws us r
-wrote-two {p} {q} {x} {ws = ws} h e f n s =
-    record {
+    Wrote (y ∷ z ∷ []) 0 x ws us r
+wrote-two {p} {q} {x = x} {ws = ws} h a b e f n s =
+    rw (← a, ← b)
+    (record {
       words = f ∙ ap (over (x.step + 1) (table (q ∷ []))) e ∙ steps-over x.step (p ∷ []) (q ∷ []) ws (omega arith);
       node = omega arith;
       step = s;
-    }
+    })
 
 pub wrote-length :
     {a : List Step} {m : ℕ} {x r : Next} {ws vs : List ℕ} →

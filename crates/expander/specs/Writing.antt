@@ -1,23 +1,12 @@
 -- Steps in lent words.
-use Rattle.std.specs.Prelude.{ℕ, ◌+◌, ◌*◌, ◌^◌, ◌≤◌, ◌<◌, List, ◌∷◌, ◌++◌, ◌≡◌, length, take, drop}
+use Rattle.std.specs.Prelude.{ℕ, ◌+◌, ◌*◌, ◌^◌, ◌≤◌, ◌<◌, List, ◌++◌, ◌≡◌, length, take, drop}
 use Rattle.rules.specs.Syntax.{Stmt, block}
-use Rattle.rules.specs.Expanding.{Step, step, made, expand, table}
+use Rattle.rules.specs.Reading.{kind_of}
+use Rattle.rules.specs.Expanding.{Step, made, expand, table}
 use Rattle.records.specs.Counting.{step_count}
 use Rattle.records.specs.Acceptance.{Good, GoodAll}
 use Rattle.expander.specs.declared.Ends.{Ends}
 use Rattle.expander.specs.declared.Next.{Next}
-use Rattle.expander.specs.declared.StepKind.{StepKind}
-use Rattle.expander.specs.declared.StepKind.TheVariants.{Guard, True, False, Set, Transfer, Require, Return}
-
--- a kind's number in the table
-abbrev pub number_of : StepKind → ℕ
-number_of Guard = 1
-number_of True = 2
-number_of False = 3
-number_of Set = 4
-number_of Transfer = 5
-number_of Require = 6
-number_of Return = 7
 
 -- words with others in their place from the i-th step on
 unfoldable pub over : (i : ℕ) (front words : List ℕ) → List ℕ
@@ -58,14 +47,7 @@ abbrev pub BlockExpands : (at : ℕ) (e : Ends) (x : Next) (bytes before after :
 BlockExpands at e x bytes before after r =
     (a : GoodAll bytes) → Fit (block a.tree) a.at at x bytes before → Expanded (block a.tree) e x before after r
 
--- a condition that stands at this offset and the part that it guards, which goes on to `back`
-abbrev pub guarded : (at : ℕ) (part : Stmt) (e : Ends) (back n : ℕ) → List Step
-guarded at s e back n = step e.o n 2 0 at ∷ step e.o e.d 3 0 at ∷ expand s n back e.r (n + 1)
-
--- the part is expanded after the condition's node and two steps
-abbrev pub in_part : Next → Next
-in_part x = record { node = x.node + 1; step = x.step + 2 }
-
-abbrev pub PartExpands : (at test : ℕ) (e : Ends) (back : ℕ) (x : Next) (bytes before after : List ℕ) (r : Next) → Type 0
-PartExpands at test e back x bytes before after r =
-    (a : Good bytes) → Fit a.tree a.at at (in_part x) bytes before → Wrote (guarded test a.tree e back x.node) (1 + made a.tree) x before after r
+-- where the part goes on that a condition guards: "if: .. body y to d", "while: .. body y to o"
+pub data GoesBack (back : ℕ) (e : Ends) (bytes : List ℕ) : Type 0 where
+  of_if : kind_of bytes ≡ 33 → back ≡ e.d → GoesBack back e bytes
+  of_while : kind_of bytes ≡ 35 → back ≡ e.o → GoesBack back e bytes

@@ -1,24 +1,14 @@
-// The steps of accepted records, written into lent words, five words each. This serves our own crates only: a caller has to see
-// that the bytes are accepted, that the words have room for the steps, and that offsets and nodes fit 32 bits.
+// The steps of accepted records, written into lent words, five words each, as the C interface lends them. This serves our own
+// crates only: a caller has to see that the bytes are accepted, that the words have room for the steps, and that offsets and
+// nodes fit 32 bits.
 #![tactic(auto)]
 
 pub mod statements;
+pub mod steps;
 pub mod transitions;
 pub mod writing;
 
 ghost use Rattle.std.specs.Prelude.{◌≡◌, ◌+◌, ◌^◌, ◌<◌};
-
-// A step's kind, by its number in the table.
-#[derive(Clone, Copy, PartialEq, Eq)]
-pub enum StepKind {
-    Guard = 1,
-    True = 2,
-    False = 3,
-    Set = 4,
-    Transfer = 5,
-    Require = 6,
-    Return = 7,
-}
 
 // The nodes that a statement is expanded between: from o to d, with the return node r.
 #[derive(Clone, Copy)]
@@ -37,7 +27,9 @@ impl Ends {
     }
 }
 
-// Where expanding goes on: the next new node, and the place of the next step.
+// Where expanding goes on: the next new node, and the place of the next step. The words are a parameter beside it. Tried as one
+// struct with the lent words in it: each function then needs a second clause, that it keeps them
+// (`self.new.words.ghost_name ≡ self.old.words.ghost_name`).
 #[derive(Clone, Copy)]
 pub struct Next {
     pub node: u32,

@@ -1,14 +1,18 @@
 // The steps of a statement record s at the offset `at`, and where expanding goes on after it.
-// For our own crates only: a caller has to see that the record is accepted and that the words have room.
+// For our own crates only: a caller has to see that the record is accepted and that the words have room. That is a clause and no
+// type: it is of a record, of the next node and of the words at once, and each call has others. So is a form's kind: a type for
+// each would be made and taken apart once. A record and its offset stay two for the like: a struct would be made anew at each part.
 ghost use Rattle.std.specs.Prelude.{◌≡◌, ◌+◌, ◌^◌, ◌<◌, ◌≤◌, length};
 ghost use Rattle.rules.specs.Expanding.{joints};
-ghost use Rattle.rules.specs.Reading.{size_of, kind_of};
+ghost use Rattle.rules.specs.Reading.{kind_of};
 ghost use Rattle.records.specs.Acceptance.{GoodAll};
-ghost use Rattle.expander.specs.Writing.{Expandable, Expands, BlockExpandable, BlockExpands, in_part, PartExpands};
+ghost use Rattle.expander.specs.Writing.{Expandable, Expands, BlockExpandable, BlockExpands, GoesBack};
 
+use crate::steps::StepKind;
 use crate::writing::{write_condition, write_one};
-use crate::{Ends, Next, StepKind};
+use crate::{Ends, Next};
 use records::bytes::u16_at;
+use records::kind::Kind;
 
 #[cycle(expand)]
 #[tactic(auto, using(crate::proofs::Bounds::statement_bounds))]
@@ -17,53 +21,45 @@ pub fn expand_statement(s: &[u8], at: usize, ends: Ends, words: &mut [u32], next
     ensures { Expands at ends next s.now words.old words.new result }
 {
     let n = u16_at(s, 0);
-    // The kinds stay the file's numbers: the rules name them so.
-    match u16_at(s, 2) {
-        16 => write_one(words, next, ends.o, ends.d, StepKind::Set, at),
-        17 => write_one(words, next, ends.o, ends.d, StepKind::Transfer, at),
-        18 => write_one(words, next, ends.o, ends.d, StepKind::Require, at),
-        19 => write_one(words, next, ends.o, ends.r, StepKind::Return, at),
-        32 => expand_block(&s[4..n], at + 4, ends, words, next),
-        33 => {
-            let b = 4 + u16_at(s, 4);
-            expand_part(&s[b..n], at + b, at + 4, ends, ends.d, words, next)
-        }
-        34 => expand_else(s, n, at, ends, words, next),
-        35 => {
-            let b = 4 + u16_at(s, 4);
-            expand_part(&s[b..n], at + b, at + 4, ends, ends.o, words, next)
-        }
-        36 => expand_for(s, n, at, ends, words, next),
+    let Ok(kind) = Kind::try_from(u16_at(s, 2)) else {
+        return next;
+    };
+    match kind {
+        Kind::Set => write_one(words, next, ends.o, ends.d, StepKind::Set, at),
+        Kind::Transfer => write_one(words, next, ends.o, ends.d, StepKind::Transfer, at),
+        Kind::Require => write_one(words, next, ends.o, ends.d, StepKind::Require, at),
+        Kind::Return => write_one(words, next, ends.o, ends.r, StepKind::Return, at),
+        Kind::Block => expand_block(&s[4..n], at + 4, ends, words, next),
+        Kind::If => expand_part(s, at, ends, ends.d, words, next),
+        Kind::IfElse => expand_else(s, at, ends, words, next),
+        Kind::While => expand_part(s, at, ends, ends.o, words, next),
+        Kind::For => expand_for(s, at, ends, words, next),
+        // No record of another kind is a statement.
         _ => next,
     }
 }
 
-// An if or a while whose condition stands at the offset `test`: the part s, if it is carried out, goes on to `back`.
+// An if or a while: the part that it carries out goes on to `back`.
 #[cycle(expand)]
-fn expand_part(
-    s: &[u8],
-    at: usize,
-    test: usize,
-    ends: Ends,
-    back: u32,
-    words: &mut [u32],
-    next: Next,
-) -> Next
-    requires { (test ≤ at) × Expandable at (in_part next) s.now words.old }
-    ensures { PartExpands at test ends back next s.now words.old words.new result }
-{
-    let node = next.node;
-    let first = write_condition(words, next.after(1, 0), ends.o, node, ends.d, test);
-    expand_statement(s, at, ends.between(node, back), words, first)
-}
-
-// An if-else, n bytes long.
-#[cycle(expand)]
-#[tactic(auto, using(crate::proofs::Bounds::else_bounds))]
-fn expand_else(s: &[u8], n: usize, at: usize, ends: Ends, words: &mut [u32], next: Next) -> Next
-    requires { (n ≡ size_of s.now) × (kind_of s.now ≡ 34) × Expandable at next s.now words.old }
+fn expand_part(s: &[u8], at: usize, ends: Ends, back: u32, words: &mut [u32], next: Next) -> Next
+    requires { GoesBack back ends s.now × Expandable at next s.now words.old }
     ensures { Expands at ends next s.now words.old words.new result }
 {
+    let n = u16_at(s, 0);
+    let b = 4 + u16_at(s, 4);
+    let node = next.node;
+    let first = write_condition(words, next.after(1, 0), ends.o, node, ends.d, at + 4);
+    expand_statement(&s[b..n], at + b, ends.between(node, back), words, first)
+}
+
+// An if-else: both its parts go on to its end.
+#[cycle(expand)]
+#[tactic(auto, using(crate::proofs::Bounds::else_bounds))]
+fn expand_else(s: &[u8], at: usize, ends: Ends, words: &mut [u32], next: Next) -> Next
+    requires { (kind_of s.now ≡ 34) × Expandable at next s.now words.old }
+    ensures { Expands at ends next s.now words.old words.new result }
+{
+    let n = u16_at(s, 0);
     let b = 4 + u16_at(s, 4);
     let c = b + u16_at(s, b);
     let yes = ends.between(next.node, ends.d);
@@ -73,13 +69,14 @@ fn expand_else(s: &[u8], n: usize, at: usize, ends: Ends, words: &mut [u32], nex
     expand_statement(&s[c..n], at + c, no, words, second)
 }
 
-// A for, n bytes long.
+// A for: the new nodes stand before its condition, its body and its closing set.
 #[cycle(expand)]
 #[tactic(auto, using(crate::proofs::Bounds::for_bounds))]
-fn expand_for(s: &[u8], n: usize, at: usize, ends: Ends, words: &mut [u32], next: Next) -> Next
-    requires { (n ≡ size_of s.now) × (kind_of s.now ≡ 36) × Expandable at next s.now words.old }
+fn expand_for(s: &[u8], at: usize, ends: Ends, words: &mut [u32], next: Next) -> Next
+    requires { (kind_of s.now ≡ 36) × Expandable at next s.now words.old }
     ensures { Expands at ends next s.now words.old words.new result }
 {
+    let n = u16_at(s, 0);
     let b = 4 + u16_at(s, 4);
     let c = b + u16_at(s, b);
     let d = c + u16_at(s, c);
@@ -101,15 +98,16 @@ fn expand_block(s: &[u8], at: usize, ends: Ends, words: &mut [u32], next: Next) 
     let first = next.node;
     let count = count_joints(s);
     let mut next = next.after(count, 0);
-    let mut o = ends.o;
+    // The nodes that what is left is expanded between, and where that begins: no index of a range, as it is read from the statement before.
+    let mut left = ends;
     let mut k = 0;
     for j in first..first + count {
         let part = &s[k..];
-        next = expand_statement(part, at + k, ends.between(o, j), words, next);
-        o = j;
+        next = expand_statement(part, at + k, left.between(left.o, j), words, next);
+        left.o = j;
         k += u16_at(part, 0);
     }
-    expand_statement(&s[k..], at + k, ends.between(o, ends.d), words, next)
+    expand_statement(&s[k..], at + k, left, words, next)
 }
 
 // The number of nodes between the statements of a block.

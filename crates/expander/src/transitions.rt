@@ -4,8 +4,9 @@ ghost use Rattle.std.specs.Prelude.{◌≡◌};
 ghost use Rattle.expander.specs.Transitions.{TransitionExpandable, TransitionExpands};
 
 use crate::statements::expand_statement;
+use crate::steps::{Step, StepKind};
 use crate::writing::write_step;
-use crate::{Ends, Next, StepKind};
+use crate::{Ends, Next};
 use records::bytes::u16_at;
 
 #[tactic(auto, using(crate::proofs::TransitionLaws::record_bounds))]
@@ -14,20 +15,16 @@ pub fn expand_transition(s: &[u8], at: usize, words: &mut [u32], next: Next) -> 
     ensures { TransitionExpands at next s.now words.old words.new result }
 {
     let n = u16_at(s, 0);
-    let name = u32::from(s[4]);
-    let from = u32::from(s[5]);
     let to = u32::from(s[6]);
     let b = 8 + u16_at(s, 8);
-    let guard = (at + 8) as u32;
-    write_step(
-        words,
-        next.step,
-        from,
-        next.node,
-        StepKind::Guard,
-        name,
-        guard,
-    );
+    let guard = Step {
+        origin: u32::from(s[5]),
+        target: next.node,
+        kind: StepKind::Guard as u32,
+        name: u32::from(s[4]),
+        at: (at + 8) as u32,
+    };
+    write_step(words, next.step, guard);
     let ends = Ends {
         o: next.node,
         d: to,

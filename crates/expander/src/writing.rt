@@ -1,26 +1,21 @@
 // Single steps.
-// For our own crates only: a caller has to see that the words have room.
+// For our own crates only: a caller has to see that the words have room. No type holds that: each function asks for another number.
+// An offset is a `usize` in all that reads a file, and is made a word of the table here: it has to be less than 2 ^ 32.
 ghost use Rattle.std.specs.Prelude.{◌≡◌, [], ◌∷◌, ◌+◌, ◌*◌, ◌^◌, ◌<◌, ◌≤◌, length};
 ghost use Rattle.rules.specs.Expanding.{step, table};
-ghost use Rattle.expander.specs.Writing.{number_of, over, Wrote};
+ghost use Rattle.expander.specs.Steps.{number_of, as_step};
+ghost use Rattle.expander.specs.Writing.{over, Wrote};
 
-use crate::{Next, StepKind};
+use crate::Next;
+use crate::steps::{Step, StepKind};
 
 // The i-th step.
-pub fn write_step(
-    words: &mut [u32],
-    i: usize,
-    origin: u32,
-    target: u32,
-    kind: StepKind,
-    name: u32,
-    at: u32,
-)
+pub fn write_step(words: &mut [u32], i: usize, step: Step)
     requires { 5 * i + 5 ≤ length words.old }
-    ensures { words.new ≡ over i (table (step origin target (number_of kind) name at ∷ [])) words.old }
+    ensures { words.new ≡ over i (table (as_step step ∷ [])) words.old }
 {
     let w = 5 * i;
-    words[w..w + 5].copy_from_slice(&[origin, target, kind as u32, name, at]);
+    words[w..w + 5].copy_from_slice(&<[u32; 5]>::from(step));
 }
 
 // A statement of one step.
@@ -35,7 +30,7 @@ pub fn write_one(
     requires { (5 * (next.step + 1) ≤ length words.old) × (at < 2 ^ 32) }
     ensures { Wrote (step origin target (number_of kind) 0 at ∷ []) 0 next words.old words.new result }
 {
-    write_step(words, next.step, origin, target, kind, 0, at as u32);
+    write_step(words, next.step, Step::unnamed(origin, target, kind, at));
     next.after(0, 1)
 }
 
@@ -52,7 +47,7 @@ pub fn write_condition(
     ensures { Wrote (step origin yes 2 0 at ∷ step origin no 3 0 at ∷ []) 0 next words.old words.new result }
 {
     let i = next.step;
-    write_step(words, i, origin, yes, StepKind::True, 0, at as u32);
-    write_step(words, i + 1, origin, no, StepKind::False, 0, at as u32);
+    write_step(words, i, Step::unnamed(origin, yes, StepKind::True, at));
+    write_step(words, i + 1, Step::unnamed(origin, no, StepKind::False, at));
     next.after(0, 2)
 }

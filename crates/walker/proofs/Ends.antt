@@ -46,7 +46,7 @@ unfolding onward
 reached-stops (ended n m) e w g h = absurd (not_going e w h)
 reached-stops (halted k m) e w g h = h
 
-four-to-seven : (P : ℕ → Type 0) (k : ℕ) → 4 ≤ k → k ≤ 7 → P 4 → P 5 → P 6 → P 7 → P k
+pub four-to-seven : (P : ℕ → Type 0) (k : ℕ) → 4 ≤ k → k ≤ 7 → P 4 → P 5 → P 6 → P 7 → P k
 four-to-seven P k l u a b c d = by 4 a λ x. by 5 b λ y. by 6 c λ z. subst P (omega arith) d
   where
     by : (n : ℕ) → P n → ((k ≡ n → ⊥) → P k) → P k

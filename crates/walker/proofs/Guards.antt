@@ -1,11 +1,10 @@
 -- What is found among the kind 1 steps, by their places.
 -- Assumes nothing.
-use Rattle.std.specs.Prelude.{if◌then◌else◌}
+use Rattle.std.specs.Prelude.{if◌then◌else◌, Some, None, Ok}
 use Prim.Native.Nat.{ℕ, zero, suc, ◌+◌, ◌≤◌, ◌<◌}
 use mathlib.Core.Path.{◌≡◌, refl, sym, ap, subst, ◌∙◌}
 use mathlib.Core.Bool.{Bool, true, false, ◌&&◌, ◌||◌}
 use mathlib.Core.List.{List, [], ◌∷◌, map}
-use mathlib.Core.Option.{none}
 use native.Mathlib.Omega.{arith}
 use native.Mathlib.Numerals.{add-one}
 use lib.Dec.{eqb}
@@ -17,7 +16,7 @@ use Rattle.rules.specs.Expanding.{Step, table}
 use Rattle.rules.specs.Stepping.{begins_with, entry_of, entry_known}
 use Rattle.rules.specs.Demands.{All}
 use Rattle.walker.specs.Tables.{word_at, step_at, guard_places, EntryFound}
-use Rattle.access.specs.declared.Found.TheVariants.{At}
+use Rattle.access.specs.Answers.{Found, elsewhere}
 use Rattle.walker.proofs.Tables.{Here, step-here, here-at}
 
 -- the steps are those in the words from the i-th on
@@ -90,6 +89,11 @@ named name s = eqb s.name name
 abbrev fits : (name n : ℕ) → Step → Bool
 fits name n s = eqb s.name name && eqb s.origin n
 
+-- what is answered where no step has both
+abbrev pub unfound : (known : Bool) → Found
+unfound true = elsewhere
+unfound false = Ok None
+
 module _ (words : List ℕ) (steps : List Step) where
   -- what is found, from whether a step passed has the name, and the places that are left
   pub record Left (elsewhere : Bool) (name n : ℕ) (places : List ℕ) : Type 0 where
@@ -124,7 +128,7 @@ module _ (words : List ℕ) (steps : List Step) where
     after : drop i (guard_places 0 steps) ≡ p ∷ drop (i + 1) (guard_places 0 steps)
     after = rw add-one h.next
 
-    pub found_here : word_at words p 3 ≡ name → word_at words p 0 ≡ n → EntryFound steps name n (At p)
+    pub found_here : word_at words p 3 ≡ name → word_at words p 0 ≡ n → EntryFound steps name n (Ok (Some p))
     unfolding find
     found_here e f =
         (step_at words p, record { here = here-at h.here; guard = h.guard }, left.found ∙ rw (after, eq-eqb _ _ e, eq-eqb _ _ f))
@@ -147,8 +151,13 @@ module _ (words : List ℕ) (steps : List Step) where
 
   pub found-end :
       (entries : List ℕ) → entries ≡ guard_places 0 steps → (i : ℕ) → length entries ≤ i → (b : Bool) (name n : ℕ) → Left b name n (drop i (guard_places 0 steps)) →
-      (entry_known steps name ≡ b) × (entry_of steps name n ≡ none)
+      EntryFound steps name n (unfound b)
   unfolding find any
-  found-end entries are i le b name n left =
-      let z : drop i (guard_places 0 steps) ≡ [] = drop_of_length-le (guard_places 0 steps) {i = i} (omega (arith, ap length are)) in
-      (left.known ∙ rw z (or-false b), left.found ∙ rw z)
+  found-end entries are i le b name n left = go b left
+    where
+      z : drop i (guard_places 0 steps) ≡ []
+      z = drop_of_length-le (guard_places 0 steps) {i = i} (omega (arith, ap length are))
+
+      go : (b : Bool) → Left b name n (drop i (guard_places 0 steps)) → EntryFound steps name n (unfound b)
+      go true left = (left.known, left.found ∙ rw z)
+      go false left = (left.known ∙ rw z, left.found ∙ rw z)

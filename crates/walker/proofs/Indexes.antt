@@ -3,12 +3,12 @@
 use Prim.Native.Nat.{ℕ, suc, ◌+◌, ◌≤◌, ◌<◌}
 use mathlib.Core.Path.{◌≡◌, refl, sym, ap, ◌∙◌}
 use mathlib.Core.Bool.{Bool, true, false}
-use mathlib.Core.List.{List, ◌++◌, append-nil}
+use mathlib.Core.List.{List, [], ◌∷◌, ◌++◌, append-nil}
 use native.Mathlib.Omega.{arith}
 use native.Mathlib.Numerals.{add-one}
 use lib.Dec.{eqb, ltb}
-use lib.ListN.{length, get_or, take, drop, set, replicate, length-replicate, get_or-replicate, get_or-eq_default, drop_of_length-le}
-use lib.Seq.{get_or-set_same, get_or-set_other, take-suc-set, append_snoc}
+use lib.ListN.{length, get_or, drop, set, replicate, length-replicate, get_or-replicate, get_or-eq_default, drop_of_length-le}
+use lib.Seq.{get_or-set_same, get_or-set_other, append_snoc}
 use borrow.Author.Tests.{ltb-true, ltb-false, eqb-true, eqb-false, eq-eqb, ne_eqb}
 use Rattle.rules.specs.Expanding.{Step}
 use Rattle.walker.specs.Tables.{word_at, place_from, Indexed, guard_places}
@@ -47,22 +47,19 @@ index-all steps nodes e l f = record { full = l; has = λ n. f n ∙ ap (λ (i :
 
 -- ---- entries
 
--- the first of the places are those of the kind 1 steps before the i-th
-abbrev pub EnteredTo : (i : ℕ) → List Step → (places : List ℕ) (count : ℕ) → Type 0
-EnteredTo i steps places count = guard_places 0 steps ≡ take count places ++ guard_places i (drop i steps)
+-- the entries are the kind 1 steps before the i-th
+abbrev pub EnteredTo : (i : ℕ) → List Step → (entries : List ℕ) → Type 0
+EnteredTo i steps entries = guard_places 0 steps ≡ entries ++ guard_places i (drop i steps)
 
-module _ {words : List ℕ} {steps : List Step} {i : ℕ} (h : Here words steps i) (places : List ℕ) (count : ℕ) (f : EnteredTo i steps places count) where
-  pub entries-here : word_at words i 2 ≡ 1 → count < length places → EnteredTo (i + 1) steps (set places count i) (count + 1)
+module _ {words : List ℕ} {steps : List Step} {i : ℕ} (h : Here words steps i) (entries : List ℕ) (f : EnteredTo i steps entries) where
+  pub entries-here : word_at words i 2 ≡ 1 → EnteredTo (i + 1) steps (entries ++ i ∷ [])
   unfolding guard_places
-  entries-here e low =
-      let rest : List ℕ = guard_places (suc i) (drop (suc i) steps) in
-      let more = ap (λ (l : List ℕ). l ++ rest) (sym (take-suc-set places count i low)) in
-      f ∙ rw (h.here, eq-eqb _ _ e, add-one count, add-one i) (sym (append_snoc (take count places) i rest) ∙ more)
+  entries-here e = f ∙ rw (h.here, eq-eqb _ _ e, add-one i) (sym (append_snoc entries i (guard_places (suc i) (drop (suc i) steps))))
 
-  pub entries-other : (word_at words i 2 ≡ 1 → ⊥) → EnteredTo (i + 1) steps places count
+  pub entries-other : (word_at words i 2 ≡ 1 → ⊥) → EnteredTo (i + 1) steps entries
   unfolding guard_places
   entries-other e = f ∙ rw (h.here, ne_eqb _ _ e, add-one)
 
-pub entries-all : (steps : List Step) (places : List ℕ) (count i : ℕ) → length steps ≤ i → EnteredTo i steps places count → take count places ≡ guard_places 0 steps
+pub entries-all : (steps : List Step) (entries : List ℕ) (i : ℕ) → length steps ≤ i → EnteredTo i steps entries → entries ≡ guard_places 0 steps
 unfolding guard_places
-entries-all steps places count i h f = sym (f ∙ rw (drop_of_length-le steps {i = i} h) (append-nil (take count places)))
+entries-all steps entries i h f = sym (f ∙ rw (drop_of_length-le steps {i = i} h) (append-nil entries))

@@ -1,13 +1,12 @@
 -- Lent words that begin with the expansion of an accepted file, and what is looked up in its steps.
-use Rattle.std.specs.Prelude.{ℕ, suc, ◌+◌, ◌*◌, ◌≡◌, true, false, List, [], ◌∷◌, eqb, length, get_or, if◌then◌else◌}
+use Rattle.std.specs.Prelude.{ℕ, suc, ◌+◌, ◌*◌, ◌≡◌, true, false, List, [], ◌∷◌, eqb, length, get_or, if◌then◌else◌, Some, None, Ok, Err}
 use Rattle.std.proofs.Math.Option.{none, some}
 use Rattle.std.proofs.Math.ListN.{get_elem?}
 use Rattle.rules.specs.Syntax.{Agreement}
 use Rattle.rules.specs.Expanding.{Step, step, expansion, table}
 use Rattle.rules.specs.Accepting.{good, file_of}
 use Rattle.rules.specs.Stepping.{begins_with, entry_of, entry_known}
-use Rattle.access.specs.declared.Found.{Found}
-use Rattle.access.specs.declared.Found.TheVariants.{Unknown, Elsewhere, At}
+use Rattle.access.specs.Answers.{Found}
 
 -- the file is accepted and the words begin with its expansion
 pub record Expanded (file words : List ℕ) : Type 0 where
@@ -58,6 +57,6 @@ pub record GuardAt (steps : List Step) (place : ℕ) (s : Step) : Type 0 where
 
 -- what is found of a call's name and state
 abbrev pub EntryFound : List Step → (name state : ℕ) → Found → Type 0
-EntryFound steps name n Unknown = (entry_known steps name ≡ false) × (entry_of steps name n ≡ none)
-EntryFound steps name n Elsewhere = (entry_known steps name ≡ true) × (entry_of steps name n ≡ none)
-EntryFound steps name n (At i) = (s : Step) × GuardAt steps i s × (entry_of steps name n ≡ some s)
+EntryFound steps name n (Ok (Some i)) = (s : Step) × GuardAt steps i s × (entry_of steps name n ≡ some s)
+EntryFound steps name n (Ok None) = (entry_known steps name ≡ false) × (entry_of steps name n ≡ none)
+EntryFound steps name n (Err _) = (entry_known steps name ≡ true) × (entry_of steps name n ≡ none)

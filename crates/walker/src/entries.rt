@@ -1,13 +1,14 @@
-// The places of an expansion's kind 1 steps.
-ghost use Rattle.std.specs.Prelude.{◌≡◌};
+// The places of an expansion's kind 1 steps. For our own crates only: a caller has to see that there is room.
+ghost use Rattle.std.specs.Prelude.{◌≡◌, [], ◌∷◌, ◌++◌, ◌<◌, length};
 
 use std::marker::Model;
 
-// They come first in `places`.
+// They come first in `places`: fixed memory, as the product uses no heap. Reporter's `Page` is no instance of one generic type with
+// it: a page takes whole texts and promises zeros behind them.
 #[derive(Drop)]
 pub struct Entries {
-    pub(crate) places: [u32; 1024],
-    pub(crate) count: usize,
+    places: [u32; 1024],
+    count: usize,
 }
 
 impl Model for Entries {
@@ -21,6 +22,25 @@ impl Model for Entries {
 }
 
 impl Entries {
+    #[inline(always)]
+    pub fn new() -> Self
+        ensures { result ≡ [] }
+    {
+        Entries {
+            places: [0; 1024],
+            count: 0,
+        }
+    }
+
+    #[inline(always)]
+    pub fn push(&mut self, place: u32)
+        requires { length self.old < 1024 }
+        ensures { self.new ≡ self.old ++ place ∷ [] }
+    {
+        self.places[self.count] = place;
+        self.count += 1;
+    }
+
     pub fn places(&self) -> &[u32]
         ensures { result.now ≡ self.now }
     {

@@ -1,15 +1,15 @@
-// What a run looks up in the steps, found once for all runs. For our own crates only: a caller has to see that the words begin
-// with an expansion of so many steps.
+// Which step leaves a node first, and where the kind 1 steps are: found once, before the runs. For our own crates only: a caller has
+// to see that the words begin with an expansion of so many steps.
 ghost use Rattle.std.specs.Prelude.{List, ◌≡◌, ℕ, length};
 ghost use Rattle.rules.specs.Expanding.{expansion};
 ghost use Rattle.walker.specs.Tables.{Expanded, Tabled, Indexed, guard_places};
 
 use crate::entries::Entries;
 use crate::words::step_at;
-use expander::StepKind;
+use expander::steps::StepKind;
 
-// For each node 1 + the place of the first step that leaves it, or 0 where none does: one word a node, and no
-// option, which would take two. The last step goes first, so that the first of those that leave a node stays.
+// For each node 1 + the place of the first step that leaves it, or 0 where none does: one word a node, and no option, which takes two,
+// of a `NonZeroU32` too. The last step goes first, so that the first of those that leave a node stays.
 pub fn index_nodes(words: &[u32], steps: usize) -> [u32; 1091]
     requires { Tabled words.now steps }
     ensures { (file : List ℕ) (a : Expanded file words.now) → steps ≡ length (expansion a.tree) →
@@ -29,13 +29,11 @@ pub fn index_entries(words: &[u32], steps: usize) -> Entries
     ensures { (file : List ℕ) (a : Expanded file words.now) → steps ≡ length (expansion a.tree) →
         result ≡ guard_places 0 (expansion a.tree) }
 {
-    let mut places = [0; 1024];
-    let mut count = 0;
+    let mut entries = Entries::new();
     for i in 0..steps {
-        if step_at(words, i).kind == StepKind::Guard as u32 {
-            places[count] = i as u32;
-            count += 1;
+        if StepKind::try_from(step_at(words, i).kind) == Ok(StepKind::Guard) {
+            entries.push(i as u32);
         }
     }
-    Entries { places, count }
+    entries
 }

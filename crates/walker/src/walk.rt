@@ -1,4 +1,5 @@
-// A run from node to node. For our own crates only: a caller has to see that the total fits 32 bits.
+// A run from node to node. For our own crates only: a caller has to see that the total fits 32 bits, which is of a machine and a setting
+// together and so a clause.
 ghost use Rattle.std.proofs.Math.Option.{some};
 ghost use Rattle.std.specs.Prelude.{◌≡◌, get_or};
 ghost use Rattle.std.proofs.Math.ListN.{get_elem?};
@@ -12,16 +13,9 @@ ghost use Rattle.walker.specs.Runs.{run_of, indexed_as, Ready, Enterable, decide
 use crate::steps::Steps;
 use crate::words::step_at;
 use actions::steps::{guard, perform, test};
-use expander::StepKind;
+use expander::steps::StepKind;
 use machine::Stop;
 use rules::{Machine, Setting};
-
-// The first step of a condition, and those of statements.
-const TRUE: u32 = StepKind::True as u32;
-
-const SET: u32 = StepKind::Set as u32;
-
-const RETURN: u32 = StepKind::Return as u32;
 
 // Where an action leads: to this node, by a return too, unless it is refused.
 #[tactic(auto, unfolding(rules::specs::Calling::leads))]
@@ -34,7 +28,7 @@ fn led(node: u32, run: Result<(), Stop>) -> Result<u32, Stop>
     }
 }
 
-// A run stops where it has returned or is refused; on steps a return goes on, and so none of these runs ends with one.
+// On steps a return leads on to its target: these runs end at a node or are refused, and never as `Stop::Returned`.
 impl Steps<'_> {
     // The place of the first step that leaves a node, if one does.
     fn place_of(&self, node: u32) -> Option<usize>
@@ -66,14 +60,17 @@ impl Steps<'_> {
             ran result m.new ≡ run_of (advance_in self.now.file.now a.tree setting.now (step_at self.now.words.now i) m.old) }
     {
         let step = step_at(self.words, i);
-        match step.kind {
-            TRUE => self.decide(i, m, setting),
-            SET..=RETURN => {
+        // No step of another kind is the first that leaves a node of a run.
+        let Ok(kind) = StepKind::try_from(step.kind) else {
+            return Err(Stop::ActionFailed);
+        };
+        match kind {
+            StepKind::True => self.decide(i, m, setting),
+            StepKind::Set | StepKind::Transfer | StepKind::Require | StepKind::Return => {
                 let run = perform(&self.file[step.at as usize..], m, setting);
                 led(step.target, run)
             }
-            // No step of another kind is the first that leaves a node of a run.
-            _ => Err(Stop::ActionFailed),
+            StepKind::Guard | StepKind::False => Err(Stop::ActionFailed),
         }
     }
 

@@ -2,16 +2,9 @@
 ghost use Rattle.std.specs.Prelude.{◌+◌, ◌*◌, ◌≤◌, length};
 ghost use Rattle.walker.specs.Words.{Holds};
 
-#[derive(Clone, Copy)]
-pub struct Step {
-    pub origin: u32,
-    pub target: u32,
-    pub kind: u32,
-    pub name: u32,
-    pub at: u32,
-}
+use expander::steps::Step;
 
-// The i-th step. What a caller leaves unread is not loaded.
+// The i-th step. No `From<[u32; 5]>`: the five words would be copied first.
 pub fn step_at(words: &[u32], i: usize) -> Step
     requires { 5 * i + 5 ≤ length words.now }
     ensures { Holds words.now i result }

@@ -25,5 +25,5 @@ returns c =
     λ a f.
     let x = parts c.args.s.now c.u16_at-n.ensures.0 c.u16_at-b.ensures.0 a in
     let y = c.after.ensures in
-    transition-expanded x f y.node y.step c.from-name.ensures c.from-from.ensures c.from-to.ensures
+    transition-expanded x f y.node y.step c.from-2.ensures c.from.ensures c.from-to.ensures
     c.write_step.ensures (c.expand_statement.ensures x.action (action-fit x f y.node y.step c.write_step.auto.words))

@@ -1,4 +1,4 @@
--- The first of the places are those of the kind 1 steps before the i-th.
+-- The entries are those of the kind 1 steps before the i-th.
 use Prim.Native.Nat.{ℕ, ◌≤◌}
 use mathlib.Core.Path.{◌≡◌}
 use mathlib.Core.List.{List}
@@ -10,6 +10,5 @@ use Rattle.walker.proofs.index.index_entries.Given as goal
 
 abbrev pub invariant-loop-i : goal.invariant-loop-i
 invariant-loop-i l =
-    (l.count ≤ l.i)
-    × (length l.places ≡ 1024)
-    × ((file : List ℕ) (a : Expanded file l.words) → l.steps ≡ length (expansion a.tree) → EnteredTo l.i (expansion a.tree) l.places l.count)
+    (length l.entries ≤ l.i)
+    × ((file : List ℕ) (a : Expanded file l.words) → l.steps ≡ length (expansion a.tree) → EnteredTo l.i (expansion a.tree) l.entries)

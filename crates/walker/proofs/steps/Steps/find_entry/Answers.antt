@@ -1,6 +1,7 @@
 -- `find_entry` meets its contract.
 use Prim.Native.Nat.{ℕ, ◌<◌}
-use mathlib.Core.Path.{◌≡◌, sym, ◌∙◌}
+use mathlib.Core.Path.{◌≡◌, refl, sym, ◌∙◌}
+use mathlib.Core.Bool.{true, false}
 use mathlib.Core.List.{List}
 use lib.ListN.{length, get_or}
 use Rattle.rules.specs.Expanding.{expansion}
@@ -17,7 +18,7 @@ looked :
 looked {words} {items = items} {i} is low a e = place words (expansion a.tree) a.begins items (is ∙ e) i low
 
 pub loop-place-init : goal.loop-place-init
-loop-place-init c = λ a. left-all c.args.self.now.words.now (expansion a.tree) a.begins c.args.name c.args.state
+loop-place-init c = λ a. (false, refl, left-all c.args.self.now.words.now (expansion a.tree) a.begins c.args.name c.args.state)
 
 pub step_at-step-requires : goal.step_at-step-requires
 step_at-step-requires c =
@@ -27,7 +28,7 @@ step_at-step-requires c =
 pub returns-then-step-state : goal.returns-then-step-state
 returns-then-step-state c = λ a.
     let s = c.step_at-step.ensures in
-    found_here _ _ (looked c.places-place-items.ensures c.loop-place-test.true a (c.requires a)) _ _ _ (c.loop-place.invariant a)
+    found_here _ _ (looked c.places-place-items.ensures c.loop-place-test.true a (c.requires a)) _ _ _ (c.loop-place.invariant a).2
     (sym s.name ∙ c.if-step-from.true ∙ c.from.ensures) (sym s.origin ∙ c.if-step-state.true)
 
 pub loop-place-preserved : goal.loop-place-preserved
@@ -41,19 +42,13 @@ loop-place-preserved c = λ a.
     let p = looked c.places-place-items.ensures c.loop-place-test.true a (c.requires a) in
     elim c.if-step-from.branch [
       | then-step-from+else-step-state w ↦
-          rw w.elsewhere-is (found-other words T p _ name state h (sym s.name ∙ w.if-step-from.true ∙ c.from.ensures) (λ z. w.if-step-state.false (s.origin ∙ z)))
-      | else-step-from w ↦ rw w.elsewhere-is (found_none words T p _ name state h (λ z. w.if-step-from.false (s.name ∙ z ∙ sym c.from.ensures)))
+          (true, w.found-is, found-other words T p _ name state h.2 (sym s.name ∙ w.if-step-from.true ∙ c.from.ensures) (λ z. w.if-step-state.false (s.origin ∙ z)))
+      | else-step-from w ↦ (h.0, w.found-is ∙ h.1, found_none words T p _ name state h.2 (λ z. w.if-step-from.false (s.name ∙ z ∙ sym c.from.ensures)))
     ]
 
 -- the entries have all been passed
-pub returns-then-elsewhere : goal.returns-then-elsewhere
-returns-then-elsewhere c = λ a.
-    let r = found-end c.args.self.now.words.now (expansion a.tree) _ (c.places-place-items.ensures ∙ c.requires a) _ c.loop-place-test.false _ c.args.name c.args.state
-    (c.loop-place.invariant a) in
-    (r.0 ∙ c.if-elsewhere.true, r.1)
-
-pub returns-else-elsewhere : goal.returns-else-elsewhere
-returns-else-elsewhere c = λ a.
-    let r = found-end c.args.self.now.words.now (expansion a.tree) _ (c.places-place-items.ensures ∙ c.requires a) _ c.loop-place-test.false _ c.args.name c.args.state
-    (c.loop-place.invariant a) in
-    (r.0 ∙ c.if-elsewhere.false, r.1)
+pub returns : goal.returns
+returns c = λ a.
+    let h = c.loop-place.invariant a in
+    rw h.1
+    (found-end c.args.self.now.words.now (expansion a.tree) _ (c.places-place-items.ensures ∙ c.requires a) _ c.loop-place-test.false h.0 c.args.name c.args.state h.2)
