@@ -67,7 +67,8 @@ fn counter(k: Call, l: Call) -> Ran
     run(&file, k, l)
 }
 
-// The counter agreement at limit 5.
+// The counter agreement at limit 5. Not one function of a limit with `counter`: that the bytes are the encoded agreement is computed, for
+// each limit by itself.
 fn limited(k: Call, l: Call) -> Ran
     ensures { outcomes result ≡ run_list (counter_of 2 5 10) (k ∷ l ∷ []) }
 {

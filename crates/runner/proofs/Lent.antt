@@ -1,14 +1,14 @@
 -- Starting and calling on steps once their parts are known, and what lent words that pass their tests give.
 -- Assumes nothing.
-use Rattle.std.specs.Prelude.{if◌then◌else◌}
-use Prim.Native.Nat.{ℕ, ◌+◌, ◌*◌, ◌≤◌, ◌<◌}
+use Rattle.std.specs.Prelude.{if◌then◌else◌, Some, None, Result, Ok, Err}
+use Rattle.std.specs.Prelude
+use Prim.Native.Nat.{ℕ, ◌+◌}
 use mathlib.Core.Path.{◌≡◌, refl, sym, ap, subst, ◌∙◌}
-use mathlib.Core.Bool.{Bool, true, false, ◌&&◌}
-use mathlib.Core.List.{List, []}
+use mathlib.Core.Bool.{Bool, true, false, ◌&&◌, not}
+use mathlib.Core.List.{List, [], ◌∷◌}
 use mathlib.Core.Option.{Option, none, some}
 use lib.Dec.{eqb, leb}
 use lib.ListN.{length}
-use borrow.Author.Tests.{lt-ltb, le-ltb}
 use Rattle.rules.specs.declared.Call.{Call}
 use Rattle.rules.specs.declared.Fields.{Fields}
 use Rattle.rules.specs.declared.Machine.{Machine}
@@ -16,10 +16,11 @@ use Rattle.rules.specs.declared.State.{State}
 use Rattle.rules.specs.Basics.{first_of, given, is_none}
 use Rattle.rules.specs.Syntax.{Agreement}
 use Rattle.rules.specs.Expanding.{Step, expansion, table}
-use Rattle.rules.specs.Accepting.{on_file, refusal, too_few}
+use Rattle.rules.specs.declared.Refusal.{Refusal}
+use Rattle.rules.specs.Accepting.{bad, file_of, on_file, refusal, refused_by, too_few}
 use Rattle.rules.specs.declared.Setting.{Setting}
 use Rattle.rules.specs.Running.{Run, going}
-use Rattle.rules.specs.Calling.{End, ended, halted, leads, ends_in, opening_state, no_call, entered, started, called, call_tests, start_setting, start_by, call_by}
+use Rattle.rules.specs.Calling.{End, ended, halted, leads, ends_in, opening_state, no_call, entered, started, called, call_tests, start_setting, call_setting, start_by, call_by}
 use Rattle.rules.specs.Calling.{refused_start, refused_call}
 use Rattle.rules.specs.Stepping.{begins_with, settled, walk_by, entry_of, entry_known, start_steps, call_steps, lent_tests, start_expanded, call_expanded}
 use Rattle.forms.proofs.Decoding.{lent-steps, lent-pass, lent-call-pass}
@@ -27,11 +28,10 @@ use Rattle.machine.specs.declared.Stop.{Stop}
 use Rattle.machine.specs.declared.Stop.TheVariants.{Returned, GuardFalse, GuardFailed, ActionFailed, UnitsUsedUp}
 use Rattle.machine.specs.Runs.{stopped_by}
 use Rattle.machine.specs.Calls.{Passed}
-use Rattle.machine.proofs.Calls.{sender-refused, lent-refused}
+use Rattle.machine.proofs.Calls.{one_refused, sender-refused, lent-refused}
 use Rattle.access.specs.Trees.{AcceptedFile}
 use Rattle.access.proofs.Using.{same-accepted}
-use Rattle.access.specs.declared.Found.{Found}
-use Rattle.access.specs.declared.Found.TheVariants.{Unknown, Elsewhere, At}
+use Rattle.access.specs.Answers.{Found}
 use Rattle.walker.specs.Tables.{Expanded, Tabled, EntryFound}
 use Rattle.walker.specs.Runs.{run_of, walk_in, walk_by_in}
 use Rattle.walker.proofs.Ends.{not_going}
@@ -42,10 +42,6 @@ use Rattle.runner.proofs.Runs.{no-and, call-elsewhere, call-run}
 
 abbrev pub file-of : {file words : List ℕ} → Expanded file words → AcceptedFile file
 file-of a = record { tree = a.tree; is = a.is }
-
--- words that were found to begin with its expansion
-abbrev pub beginning : {file words : List ℕ} (a : AcceptedFile file) {b : Bool} → b ≡ begins_with words (table (expansion a.tree)) → b ≡ true → Expanded file words
-beginning a h e = record { tree = a.tree; is = a.is; begins = sym h ∙ e }
 
 -- the steps that were looked through, by any way in which the file is accepted
 abbrev pub by-file : {file words : List ℕ} → Expanded file words → (a : AcceptedFile file) → Expanded file words
@@ -78,12 +74,25 @@ module _ (c : Setting) where
 -- ---- starting
 
 pub start-in :
-    (file : List ℕ) (a : Agreement) {f : Fields} {k : Call} {s : State} {m : Machine} {n b : ℕ} → f ≡ a.fields → n ≡ f.states → b ≡ f.start → k ≡ no_call → s ≡ opening_state f → m ≡ entered k s →
-    let c : Setting = record { fields = f; before = b; call = k } in started (settled c (walk_in file a c (n + 2) m)) ≡ start_in file a
+    (file : List ℕ) (a : Agreement) {f : Fields} {m : Machine} {c : Setting} {n : ℕ} → f ≡ a.fields → n ≡ f.states → m ≡ entered no_call (opening_state f) → c ≡ start_setting f →
+    started (settled c (walk_in file a c (n + 2) m)) ≡ start_in file a
 unfolding start_steps start_by start_setting
-start-in file a e l q i j h = rw (h, j, i, q, l, e)
+start-in file a e l h i = rw (h, i, l, e)
 
 -- ---- calling
+
+-- what is found of the call's name and state, as the setting has them
+pub entry-met :
+    (steps : List Step) (f : Fields) (s : State) (k : Call) {c : Setting} (e : Found) → c ≡ call_setting f s k → EntryFound steps k.name s.state e →
+    EntryFound steps c.call.name c.before e
+unfolding call_setting
+entry-met steps f s k e i x = subst (λ (c : Setting). EntryFound steps c.call.name c.before e) (sym i) x
+
+entry-same :
+    (steps : List Step) (f : Fields) (s : State) (k : Call) {c : Setting} → c ≡ call_setting f s k →
+    entry_of steps c.call.name c.before ≡ entry_of steps k.name s.state
+unfolding call_setting
+entry-same steps f s k i = ap (λ (c : Setting). entry_of steps c.call.name c.before) i
 
 module _ (file : List ℕ) (a : Agreement) (s : State) (k : Call) where
   abbrev entry : Option Step
@@ -100,29 +109,23 @@ module _ (file : List ℕ) (a : Agreement) (s : State) (k : Call) where
   steps-call = refl
 
   module _ {f : Fields} (is : f ≡ a.fields) (p : Passed f s k) where
-    abbrev setting : Setting
-    setting = record { fields = f; before = s.state; call = k }
-
     pub steps-elsewhere : known ≡ true → entry ≡ none → refused_call (refusal 22) 0 s ≡ call_in file a s k
     unfolding is_none
     steps-elsewhere u v = call-elsewhere is s k _ runs steps-call p (rw (u, v))
 
-    pub steps-run : {m : Machine} → (known && is_none entry) ≡ false → m ≡ entered k s → called s (settled setting (walk_by_in file a setting entry m)) ≡ call_in file a s k
-    steps-run u = call-run is s k _ runs steps-call p u
+    pub steps-run :
+        {m : Machine} {c : Setting} → (known && is_none entry) ≡ false → m ≡ entered k s → c ≡ call_setting f s k →
+        called s (settled c (walk_by_in file a c (entry_of (expansion a) c.call.name c.before) m)) ≡ call_in file a s k
+    steps-run {m} {c} u h i =
+        ap (λ (o : Option Step). called s (settled c (walk_by_in file a c o m))) (entry-same (expansion a) f s k i) ∙ call-run is s k _ runs steps-call p u h i
 
--- what is found of a name: no step, or not that the name is elsewhere
-module _ (steps : List Step) (name state : ℕ) where
-  pub no_step : (e : Found) → ((i : ℕ) → e ≡ At i → ⊥) → EntryFound steps name state e → entry_of steps name state ≡ none
-  no_step Unknown h x = x.1
-  no_step Elsewhere h x = x.1
-  no_step (At i) h x = absurd (h i refl)
-
-  pub not-elsewhere :
-      (e : Found) → (e ≡ Elsewhere → ⊥) → EntryFound steps name state e → (entry_known steps name && is_none (entry_of steps name state)) ≡ false
-  unfolding is_none
-  not-elsewhere Unknown h x = rw x.0
-  not-elsewhere (At i) h x = rw x.2 (no-and (entry_known steps name))
-  not-elsewhere Elsewhere h x = absurd (h refl)
+-- what is found of a name that is not refused
+pub not-elsewhere :
+    (steps : List Step) (name state : ℕ) (e : Prelude.Option ℕ) → EntryFound steps name state (Ok e) →
+    (entry_known steps name && is_none (entry_of steps name state)) ≡ false
+unfolding is_none
+not-elsewhere steps name state None x = rw x.0
+not-elsewhere steps name state (Some i) x = rw x.2 (no-and (entry_known steps name))
 
 -- the run from what was found; where it is no step, that from the fallback's entry
 pub from-fallback : (file : List ℕ) (a : Agreement) (c : Setting) {o : Option Step} (m : Machine) {r : Run ℕ} {n : ℕ} → c.fields ≡ a.fields → n ≡ c.fields.states
@@ -132,28 +135,49 @@ from-fallback file a c m is e h i = rw i (h ∙ rw e (ap (λ (f : Fields). run_o
 
 -- ---- the tests of lent words
 
+-- words that passed them begin with the expansion
+pub words-begin : (a : Agreement) (words : List ℕ) → Ok tt ≡ refused_by (first_of (lent_tests a words)) → begins_with words (table (expansion a)) ≡ true
+unfolding lent_tests first_of given
+words-begin a words h = go (too_few a words) (begins_with words (table (expansion a))) h
+  where
+    go : (t b : Bool) → Ok tt ≡ refused_by (first_of ((t, 11) ∷ (not b, 12) ∷ [])) → b ≡ true
+    go true b h = cc
+    go false true h = refl
+    go false false h = cc
+
+abbrev pub beginning : {file words : List ℕ} (a : AcceptedFile file) → Ok tt ≡ refused_by (first_of (lent_tests a.tree words)) → Expanded file words
+beginning a h = record { tree = a.tree; is = a.is; begins = words-begin a.tree _ h }
+
+module _ (file words : List ℕ) where
+  pub file-start : {r : Refusal} → file_of file ≡ bad r → refused_start r 0 ≡ start_expanded file words
+  unfolding start_expanded on_file
+  file-start e = rw e
+
+  pub file-call : (s : State) (k : Call) {r : Refusal} → file_of file ≡ bad r → refused_call r 0 s ≡ call_expanded file words s k
+  unfolding call_expanded on_file
+  file-call s k e = rw e
+
 module _ (file words : List ℕ) (a : AcceptedFile file) where
-  -- too few words; words enough, and others than the expansion
-  pub few-tested : length words < 5 * length (expansion a.tree) → first_of (lent_tests a.tree words) ≡ some 11
-  unfolding first_of lent_tests too_few
-  few-tested h = rw (lt-ltb _ _ h)
-
-  pub other-tested : 5 * length (expansion a.tree) ≤ length words → begins_with words (table (expansion a.tree)) ≡ false → first_of (lent_tests a.tree words) ≡ some 12
-  unfolding first_of lent_tests too_few
-  other-tested h e = rw (le-ltb _ _ h, e)
-
-  pub start-refused : (n : ℕ) → first_of (lent_tests a.tree words) ≡ some n → refused_start (refusal n) 0 ≡ start_expanded file words
+  tests-refused : (n : ℕ) → first_of (lent_tests a.tree words) ≡ some n → refused_start (refusal n) 0 ≡ start_expanded file words
   unfolding start_expanded on_file given
-  start-refused n e = rw (a.is, e)
+  tests-refused n e = rw (a.is, e)
+
+  pub start-refused : {r : Refusal} → Err r ≡ refused_by (first_of (lent_tests a.tree words)) → refused_start r 0 ≡ start_expanded file words
+  start-refused h =
+      let e = one_refused h in
+      subst (λ (r : Refusal). refused_start r 0 ≡ start_expanded file words) (sym e.2) (tests-refused e.0 e.1)
 
   module _ (s : State) (k : Call) {f : Fields} (is : f ≡ a.tree.fields) where
     pub lent-sender : leb f.accounts k.sender ≡ true → refused_call (refusal 9) 0 s ≡ call_expanded file words s k
     unfolding call_expanded on_file call_steps
     lent-sender e = rw a.is (sym (sender-refused a.tree.fields s k _ _ _ (rw is at e)))
 
-    pub lent-words : leb f.accounts k.sender ≡ false → (n : ℕ) → first_of (lent_tests a.tree words) ≡ some n → refused_call (refusal n) 0 s ≡ call_expanded file words s k
+    pub lent-words : leb f.accounts k.sender ≡ false → {r : Refusal} → Err r ≡ refused_by (first_of (lent_tests a.tree words)) → refused_call r 0 s ≡ call_expanded file words s k
     unfolding call_expanded on_file call_steps
-    lent-words h n e = rw a.is (sym (lent-refused a.tree.fields s k _ _ _ (rw is at h) n e))
+    lent-words h w =
+        let e = one_refused w in
+        subst (λ (r : Refusal). refused_call r 0 s ≡ call_expanded file words s k) (sym e.2)
+        (rw a.is (sym (lent-refused a.tree.fields s k _ _ _ (rw is at h) e.0 e.1)))
 
   -- words that begin with the expansion
   module _ (h : begins_with words (table (expansion a.tree)) ≡ true) where

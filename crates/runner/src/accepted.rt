@@ -1,98 +1,77 @@
-// Starting and calling on the unexpanded form, once the file was read. For our own crates only: a caller has to see that the file
-// is accepted.
+// Starting and calling on the unexpanded form, once the file was read.
 ghost use Rattle.std.specs.Prelude.{◌≡◌};
 ghost use Rattle.rules.specs.Running.{after, guarded, statement};
-ghost use Rattle.rules.specs.Calling.{ends_in, called as called_of, start_tree, call_tree};
+ghost use Rattle.rules.specs.Calling.{outcome, start_tree, call_tree};
 ghost use Rattle.machine.specs.Runs.{ran, Funded};
-ghost use Rattle.machine.specs.Calls.{Passed};
 ghost use Rattle.access.specs.Trees.{AcceptedFile};
+ghost use Rattle.runner.specs.Answers.{answered};
 ghost use Rattle.runner.specs.Transitions.{Moves};
 
-use access::Found;
-use access::fields::fields;
-use access::places::layout;
-use access::transitions::{action_at, find_transition};
+use crate::answers::answered;
+use access::parsed::Parsed;
+use access::transitions::action_at;
 use actions::statements::run_statement;
 use actions::steps::guard;
 use machine::Stop;
-use machine::outcomes::{called, first_refusal, no_call, refusal, refused_call, started};
-use machine::state::{entered, opening_state};
-use rules::{Call, Fields, Machine, Outcome, Setting, State};
+use machine::outcomes::{called, check_call, started};
+use machine::state::{entering, starting};
+use reader::accepted::Accepted;
+use rules::{Answer, Call, Machine, Outcome, Refusal, Setting, State};
 
-pub fn start_accepted(file: &[u8]) -> Outcome
-    requires { AcceptedFile file.now }
-    ensures { (a : AcceptedFile file.now) → result ≡ start_tree a.tree }
+pub fn start_accepted(accepted: &Accepted) -> Outcome
+    ensures { (a : AcceptedFile accepted.now.parsed.file.now) → result ≡ start_tree a.tree }
 {
-    let fields = fields(file);
-    let before = u32::from(fields.start);
-    let call = no_call();
-    let mut m = entered(&call, &opening_state(&fields));
-    let setting = Setting {
-        fields,
-        before,
-        call,
-    };
-    let at = layout(file).initial;
-    let run = run_statement(&file[at..], &mut m, &setting);
-    started(before, &m, run)
+    let parsed = &accepted.parsed;
+    let (mut m, setting) = starting(parsed.fields());
+    let at = parsed.layout.initial;
+    let run = run_statement(&parsed.file[at..], &mut m, &setting);
+    started(setting.before, &m, run)
 }
 
-// Refusals 9, 20 and 21 come before the name is looked for.
-pub fn call_accepted(file: &[u8], s: &State, k: &Call) -> Outcome
-    requires { AcceptedFile file.now }
-    ensures { (a : AcceptedFile file.now) → result ≡ call_tree a.tree s.now k.now }
-{
-    let fields = fields(file);
-    match first_refusal(&fields, s, k) {
-        Some(number) => refused_call(refusal(number), 0, *s),
-        None => call_passed(file, fields, s, k),
-    }
-}
-
-// Refusal 22, or the fallback action, or the transition.
-fn call_passed(file: &[u8], fields: Fields, s: &State, k: &Call) -> Outcome
-    requires { AcceptedFile file.now × ((a : AcceptedFile file.now) → fields ≡ a.tree.fields) × Passed fields s.now k.now }
-    ensures { (a : AcceptedFile file.now) → result ≡ call_tree a.tree s.now k.now }
-{
-    let mut m = entered(k, s);
-    let setting = Setting {
-        fields,
-        before: s.state,
-        call: *k,
-    };
-    let l = layout(file);
-    match find_transition(file, l, k.name, s.state) {
-        Found::Elsewhere => refused_call(refusal(22), 0, *s),
-        Found::Unknown => {
-            let at = l.fallback;
-            let run = run_statement(&file[at..], &mut m, &setting);
-            ended(s, s.state, &m, run)
-        }
-        Found::At(at) => {
-            let to = u32::from(file[at + 6]);
-            let run = run_transition(file, at, &mut m, &setting);
-            ended(s, to, &m, run)
-        }
-    }
-}
-
-// The outcome of a call from the record s whose run ended so, in the state n.
-fn ended(s: &State, n: u32, m: &Machine, run: Result<(), Stop>) -> Outcome
-    ensures { result ≡ called_of s.now (ends_in n (ran run m.now)) }
+pub fn call_accepted(accepted: &Accepted, s: &State, k: &Call) -> Outcome
+    ensures { (a : AcceptedFile accepted.now.parsed.file.now) → result ≡ call_tree a.tree s.now k.now }
 {
     let mut state = *s;
-    let answer = called(&mut state, n, m, run);
+    let answer = answered(call_tested(accepted, &mut state, k));
     Outcome { answer, state }
 }
 
+// Refusals 9, 20, 21 and 22, or how the fallback action or the transition ended. A refused call leaves the record as it was.
+fn call_tested(accepted: &Accepted, s: &mut State, k: &Call) -> Result<Answer, Refusal>
+    ensures { (a : AcceptedFile accepted.now.parsed.file.now) → outcome (answered result) s.new ≡ call_tree a.tree s.old k.now }
+{
+    let parsed = &accepted.parsed;
+    let fields = parsed.fields();
+    check_call(&fields, s, k)?;
+    let found = parsed.find_transition(k.name, s.state)?;
+    let (mut m, setting) = entering(fields, s, k);
+    match found {
+        None => {
+            let at = parsed.layout.fallback;
+            let run = run_statement(&parsed.file[at..], &mut m, &setting);
+            Ok(called(s, setting.before, &m, run))
+        }
+        Some(at) => {
+            let to = u32::from(parsed.file[at + 6]);
+            let run = run_transition(parsed, at, &mut m, &setting);
+            Ok(called(s, to, &m, run))
+        }
+    }
+}
+
 // The transition at an offset: its guard, then its action.
-fn run_transition(file: &[u8], at: usize, m: &mut Machine, setting: &Setting) -> Result<(), Stop>
-    requires { Moves file.now at × Funded setting.now.fields.accounts m.old }
-    ensures { (t : Moves file.now at) →
+fn run_transition(
+    parsed: &Parsed,
+    at: usize,
+    m: &mut Machine,
+    setting: &Setting,
+) -> Result<(), Stop>
+    requires { Moves parsed.now.file.now at × Funded setting.now.fields.accounts m.old }
+    ensures { (t : Moves parsed.now.file.now at) →
         ran result m.new ≡ after (guarded setting.now t.guard.tree m.old) (λ _. statement setting.now t.action.tree) }
 {
     let condition = at + 8;
-    guard(&file[condition..], m, setting)?;
-    let action = action_at(file, at);
-    run_statement(&file[action..], m, setting)
+    guard(&parsed.file[condition..], m, setting)?;
+    let action = action_at(parsed.file, at);
+    run_statement(&parsed.file[action..], m, setting)
 }

@@ -1,73 +1,62 @@
 // Starting and calling on the expanded form. Any bytes, words, record and call get an answer.
-ghost use Rattle.std.specs.Prelude.{◌≡◌};
+ghost use Rattle.std.specs.Prelude.{◌≡◌, MatchResult};
+ghost use Rattle.rules.specs.Calling.{refused_start, refused_call};
 ghost use Rattle.rules.specs.Stepping.{start_expanded, call_expanded};
-ghost use Rattle.expansion.specs.Writing.{HasSteps};
 
 use crate::Prepared;
 use crate::steps::{call_prepared, start_prepared};
-use access::fields::fields;
-use expansion::comparing::is_expansion;
-use machine::outcomes::{is_unknown_sender, refusal, refused_call, refused_start};
-use reader::read;
-use rules::{Call, Outcome, State};
+use expansion::lent::check_words;
+use machine::outcomes::{check_sender, refused_call, refused_start};
+use reader::accept;
+use rules::{Call, Outcome, Refusal, State};
 use walker::index::{index_entries, index_nodes};
 use walker::steps::Steps;
 
 pub fn start_expanded(file: &[u8], words: &[u32]) -> Outcome
     ensures { result ≡ start_expanded file.now words.now }
 {
-    match read(file) {
-        Ok(n) => start_lent(file, words, n as usize),
+    match start_lent(file, words) {
+        Ok(outcome) => outcome,
         Err(r) => refused_start(r, 0),
     }
 }
 
-// Refusals 11 and 12.
-fn start_lent(file: &[u8], words: &[u32], steps: usize) -> Outcome
-    requires { HasSteps file.now steps }
-    ensures { result ≡ start_expanded file.now words.now }
+// What refuses the file, and refusals 11 and 12; or the start's outcome.
+fn start_lent(file: &[u8], words: &[u32]) -> Result<Outcome, Refusal>
+    ensures { MatchResult result (λ o. o ≡ start_expanded file.now words.now) (λ r. refused_start r 0 ≡ start_expanded file.now words.now) }
 {
-    if words.len() < 5 * steps {
-        return refused_start(refusal(11), 0);
-    }
-    if !is_expansion(file, steps, words) {
-        return refused_start(refusal(12), 0);
-    }
-    let nodes = index_nodes(words, steps);
-    start_prepared(&Steps {
+    let accepted = accept(file)?;
+    check_words(&accepted, words)?;
+    let nodes = index_nodes(words, accepted.steps);
+    Ok(start_prepared(&Steps {
         file,
         words,
         nodes: &nodes,
-        fields: fields(file),
-    })
+        fields: accepted.parsed.fields(),
+    }))
 }
 
 pub fn call_expanded(file: &[u8], words: &[u32], s: State, k: Call) -> Outcome
     ensures { result ≡ call_expanded file.now words.now s k }
 {
-    match read(file) {
-        Ok(n) => call_lent(file, words, n as usize, &s, &k),
+    match call_lent(file, words, &s, &k) {
+        Ok(outcome) => outcome,
         Err(r) => refused_call(r, 0, s),
     }
 }
 
-// Refusals 9, 11 and 12, in this order.
-fn call_lent(file: &[u8], words: &[u32], steps: usize, s: &State, k: &Call) -> Outcome
-    requires { HasSteps file.now steps }
-    ensures { result ≡ call_expanded file.now words.now s.now k.now }
+// What refuses the file, and refusals 9, 11 and 12, in this order; or the call's outcome. The tables are made here and in the
+// searcher: what refers to its own tables can't be handed out, and a closure over it would need a contract as long as what it saves.
+fn call_lent(file: &[u8], words: &[u32], s: &State, k: &Call) -> Result<Outcome, Refusal>
+    ensures { MatchResult result (λ o. o ≡ call_expanded file.now words.now s.now k.now)
+        (λ r. refused_call r 0 s.now ≡ call_expanded file.now words.now s.now k.now) }
 {
-    let fields = fields(file);
-    if is_unknown_sender(&fields, k) {
-        return refused_call(refusal(9), 0, *s);
-    }
-    if words.len() < 5 * steps {
-        return refused_call(refusal(11), 0, *s);
-    }
-    if !is_expansion(file, steps, words) {
-        return refused_call(refusal(12), 0, *s);
-    }
-    let nodes = index_nodes(words, steps);
-    let entries = index_entries(words, steps);
+    let accepted = accept(file)?;
+    let fields = accepted.parsed.fields();
+    check_sender(&fields, k)?;
+    check_words(&accepted, words)?;
+    let nodes = index_nodes(words, accepted.steps);
+    let entries = index_entries(words, accepted.steps);
     let steps = Steps {
         file,
         words,
@@ -78,5 +67,5 @@ fn call_lent(file: &[u8], words: &[u32], steps: usize, s: &State, k: &Call) -> O
         steps,
         entries: &entries,
     };
-    call_prepared(&p, s, k)
+    Ok(call_prepared(&p, s, k))
 }

@@ -5,32 +5,36 @@ ghost use Rattle.rules.specs.Answers.{read_numbers, counted_numbers};
 ghost use Rattle.rules.specs.Exported.{Handed, StartHands, CallHands, StartExpandedHands, CallExpandedHands};
 
 use crate::expanded::{call_expanded, start_expanded};
-use crate::layout::{answer_words, state_from, state_words};
+use crate::layout::{answer_words, counted_words, read_words, state_from, state_words};
 use crate::unexpanded::{call, start};
 use expansion::expand;
 use reader::read;
 use rules::{Call, Outcome};
 
 // The refusal's number (0: accepted) and its place.
-#[tactic(auto, unfolding(rules::specs::Answers::read_numbers))]
 pub fn agreement_read(file: &[u8], answer: &mut [u32; 2])
     ensures { answer.new ≡ read_numbers (read_file file.now) }
 {
-    match read(file) {
-        Ok(_) => *answer = [0, 0],
-        Err(r) => *answer = [u32::from(r.number), r.place],
-    }
+    *answer = read_words(read(file));
 }
 
 // The refusal's number (0: completed), its place, and the step count; the steps in the words.
-#[tactic(auto, unfolding(rules::specs::Answers::counted_numbers))]
 pub fn agreement_expand(file: &[u8], words: &mut [u32], answer: &mut [u32; 3])
     ensures answer_after { answer.new ≡ counted_numbers (expand_file file.now words.old).answer }
     ensures words_after { words.new ≡ (expand_file file.now words.old).words }
 {
-    match expand(file, words) {
-        Ok(n) => *answer = [0, 0, n],
-        Err(r) => *answer = [u32::from(r.number), r.place, 0],
+    *answer = counted_words(expand(file, words));
+}
+
+// A call of its parts.
+fn call_of(name: u8, sender: u8, coins: u32, arguments: &[u32; 4]) -> Call
+    ensures { result ≡ record { name = name; sender = sender; coins = coins; arguments = arguments.now } }
+{
+    Call {
+        name,
+        sender,
+        coins,
+        arguments: *arguments,
     }
 }
 
@@ -62,14 +66,8 @@ pub fn agreement_call(
         (record { name = name; sender = sender; coins = coins; arguments = arguments.now })
         state.old state.new answer.new }
 {
-    let k = Call {
-        name,
-        sender,
-        coins,
-        arguments: *arguments,
-    };
-    let o = call(file, state_from(state), k);
-    hand_over(&o, state, answer);
+    let k = call_of(name, sender, coins, arguments);
+    hand_over(&call(file, state_from(state), k), state, answer);
 }
 
 pub fn agreement_start_expanded(
@@ -97,12 +95,7 @@ pub fn agreement_call_expanded(
         (record { name = name; sender = sender; coins = coins; arguments = arguments.now })
         state.old state.new answer.new }
 {
-    let k = Call {
-        name,
-        sender,
-        coins,
-        arguments: *arguments,
-    };
+    let k = call_of(name, sender, coins, arguments);
     let o = call_expanded(file, words, state_from(state), k);
     hand_over(&o, state, answer);
 }

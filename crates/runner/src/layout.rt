@@ -1,9 +1,9 @@
-// State records and answers as the exported interface has them: 26 words and 5 words. Functions, and no `From`: the types are of
-// another crate.
+// State records and answers as the exported interface has them, in words. Functions, and no `From` in `rules`: how the
+// interface lays them out is said here.
 ghost use Rattle.std.specs.Prelude.{◌≡◌};
-ghost use Rattle.rules.specs.Answers.{answer_numbers, state_numbers, state_from};
+ghost use Rattle.rules.specs.Answers.{read_numbers, counted_numbers, answer_numbers, state_numbers, state_from};
 
-use rules::{Answer, State};
+use rules::{Answer, Counted, State};
 
 pub fn state_from(words: &[u32; 26]) -> State
     ensures { result ≡ state_from words.now }
@@ -30,6 +30,26 @@ pub fn state_words(s: &State) -> [u32; 26]
         s.state, v[0], v[1], v[2], v[3], v[4], v[5], v[6], v[7], v[8], v[9], v[10], v[11], v[12],
         v[13], v[14], v[15], b[0], b[1], b[2], b[3], b[4], b[5], b[6], b[7], s.own,
     ]
+}
+
+#[tactic(auto, unfolding(rules::specs::Answers::read_numbers))]
+pub fn read_words(counted: Counted) -> [u32; 2]
+    ensures { result ≡ read_numbers counted }
+{
+    match counted {
+        Ok(_) => [0, 0],
+        Err(r) => [u32::from(r.number), r.place],
+    }
+}
+
+#[tactic(auto, unfolding(rules::specs::Answers::counted_numbers))]
+pub fn counted_words(counted: Counted) -> [u32; 3]
+    ensures { result ≡ counted_numbers counted }
+{
+    match counted {
+        Ok(n) => [0, 0, n],
+        Err(r) => [u32::from(r.number), r.place, 0],
+    }
 }
 
 #[tactic(auto, unfolding(rules::specs::Answers::answer_numbers, rules::specs::Answers::value_numbers))]

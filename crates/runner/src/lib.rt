@@ -1,7 +1,8 @@
-// The operations on a file, and the library's exported interface.
+// The operations on a file: starting and calling, on both forms, and their answers in words.
 #![tactic(auto)]
 
 pub mod accepted;
+pub mod answers;
 pub mod expanded;
 pub mod interface;
 pub mod layout;

@@ -1,57 +1,57 @@
--- `call_lent` meets its contract: the tests 9, 11 and 12, and then the call on the steps.
-use mathlib.Core.Path.{sym, ap, ◌∙◌}
-use native.Mathlib.Omega.{arith}
-use lib.ListN.{length}
-use Rattle.rules.specs.Syntax.{Agreement}
-use Rattle.rules.specs.Expanding.{expansion}
-use Rattle.access.proofs.Using.{tree_of, few-steps, same-accepted}
-use Rattle.runner.proofs.Lent.{file-of, beginning, lent-sender, lent-words, few-tested, other-tested, call-lent, tabled}
+-- `call_lent` meets its contract: the file, the tests 9, 11 and 12, and then the call on the steps.
+use mathlib.Core.Path.{sym, ◌∙◌}
+use Rattle.std.proofs.lemmas.Result.{err_from_is_err_and}
+use Rattle.machine.proofs.Calls.{test_passed, test_refused}
+use Rattle.access.proofs.Kept.{accepted-of, steps-are, accepted-moved}
+use Rattle.access.proofs.Using.{refused-file, tree_of}
+use Rattle.runner.proofs.Lent.{file-of, beginning, file-call, lent-sender, lent-words, call-lent, tabled}
 use Rattle.runner.proofs.expanded.call_lent.Goals as goal
 
-pub fields-fields-requires : goal.fields-fields-requires
-fields-fields-requires c = tree_of c.requires.0
+pub returns-in_err-accepted : goal.returns-in_err-accepted
+returns-in_err-accepted c =
+    let p = err_from_is_err_and c.from_residual.result c.from_residual.ensures.1 in
+    rw (p.1, p.2) (file-call _ _ c.args.s.now c.args.k.now (refused-file _ _ c.in_err-accepted.ensures))
 
-pub returns-then-is_unknown_sender : goal.returns-then-is_unknown_sender
-returns-then-is_unknown_sender c =
-    rw (c.refused_call.ensures, c.refusal.ensures)
-    (lent-sender _ _ c.requires.0 c.args.s.now c.args.k.now (c.fields-fields.ensures (tree_of c.requires.0))
-    (sym c.is_unknown_sender.ensures ∙ c.if-is_unknown_sender.true))
+pub returns-in_err-check_sender : goal.returns-in_err-check_sender
+returns-in_err-check_sender c =
+    let p = err_from_is_err_and c.from_residual-in_err-check_sender.result c.from_residual-in_err-check_sender.ensures.1 in
+    let a = (accepted-of c.in_ok-accepted.accepted.accepted).0 in
+    let t = test_refused 9 (sym c.in_err-check_sender.was ∙ c.check_sender.ensures) in
+    rw (p.1, p.2, t.1)
+    (lent-sender _ _ (accepted-moved (sym c.in_ok-accepted.ensures.0) a) c.args.s.now c.args.k.now (c.fields-fields.ensures (tree_of a)) t.0)
 
-pub overflow_mul-steps : goal.overflow_mul-steps
-overflow_mul-steps c = omega (arith, c.requires.1, few-steps c.requires.0)
-
-pub returns-then-words-steps : goal.returns-then-words-steps
-returns-then-words-steps c =
-    rw (c.refused_call-then-words-steps.ensures, c.refusal-then-words-steps.ensures)
-    (lent-words _ _ c.requires.0 c.args.s.now c.args.k.now (c.fields-fields.ensures (tree_of c.requires.0))
-    (sym c.is_unknown_sender.ensures ∙ c.if-is_unknown_sender.false) 11
-    (few-tested _ c.args.words.now c.requires.0 (omega (arith, c.if-words-steps.true, c.requires.1))))
-
-pub returns-then-not-is_expansion : goal.returns-then-not-is_expansion
-returns-then-not-is_expansion c =
-    rw (c.refused_call-then-not-is_expansion.ensures, c.refusal-then-not-is_expansion.ensures)
-    (lent-words _ _ c.requires.0 c.args.s.now c.args.k.now (c.fields-fields.ensures (tree_of c.requires.0))
-    (sym c.is_unknown_sender.ensures ∙ c.if-is_unknown_sender.false) 12
-    (other-tested _ _ c.requires.0 (omega (arith, c.if-words-steps.false, c.requires.1))
-    (sym (c.is_expansion.ensures c.requires.0) ∙ c.if-not-is_expansion.true)))
+pub returns-in_err-check_words : goal.returns-in_err-check_words
+returns-in_err-check_words c =
+    let p = err_from_is_err_and c.from_residual-in_err-check_words.result c.from_residual-in_err-check_words.ensures.1 in
+    let a = (accepted-of c.in_ok-accepted.accepted.accepted).0 in
+    rw (p.1, p.2)
+    (lent-words _ _ (accepted-moved (sym c.in_ok-accepted.ensures.0) a) c.args.s.now c.args.k.now (c.fields-fields.ensures (tree_of a))
+    (test_passed 9 (sym c.in_ok-check_sender.was ∙ c.check_sender.ensures)) (sym c.in_err-check_words.was ∙ c.check_words.ensures.is a))
 
 pub index_nodes-nodes-requires : goal.index_nodes-nodes-requires
-index_nodes-nodes-requires c = tabled (beginning c.requires.0 (c.is_expansion.ensures c.requires.0) c.if-not-is_expansion.false) c.requires.1
+index_nodes-nodes-requires c =
+    let h = accepted-of c.in_ok-accepted.accepted.accepted in
+    tabled (beginning h.0 (sym c.in_ok-check_words.was ∙ c.check_words.ensures.is h.0)) h.1
 
 pub index_entries-entries-requires : goal.index_entries-entries-requires
-index_entries-entries-requires c = tabled (beginning c.requires.0 (c.is_expansion.ensures c.requires.0) c.if-not-is_expansion.false) c.requires.1
+index_entries-entries-requires c =
+    let h = accepted-of c.in_ok-accepted.accepted.accepted in
+    tabled (beginning h.0 (sym c.in_ok-check_words.was ∙ c.check_words.ensures.is h.0)) h.1
 
 pub invariant_of-steps : goal.invariant_of-steps
 invariant_of-steps c =
-    let e = beginning c.requires.0 (c.is_expansion.ensures c.requires.0) c.if-not-is_expansion.false in
-    record { walkable = ∣ record { expanded = e; indexed = c.index_nodes-nodes.ensures _ e c.requires.1; counts = c.fields-fields.ensures (tree_of c.requires.0) } ∣₁ }
+    let h = accepted-of c.in_ok-accepted.accepted.accepted in
+    let e = beginning (accepted-moved (sym c.in_ok-accepted.ensures.0) h.0) (sym c.in_ok-check_words.was ∙ c.check_words.ensures.is h.0) in
+    record { walkable = ∣ record { expanded = e; indexed = c.index_nodes-nodes.ensures _ e h.1; counts = c.fields-fields.ensures (tree_of h.0) } ∣₁ }
 
 pub invariant_of-p : goal.invariant_of-p
-invariant_of-p c = record {
-  entered = λ a. c.index_entries-entries.ensures _ a (c.requires.1 ∙ ap (λ (t : Agreement). length (expansion t)) (same-accepted c.requires.0 (file-of a)));
-}
+invariant_of-p c =
+    let h = accepted-of c.in_ok-accepted.accepted.accepted in
+    record { entered = λ a. c.index_entries-entries.ensures _ a (steps-are h (accepted-moved c.in_ok-accepted.ensures.0 (file-of a))) }
 
 pub returns : goal.returns
 returns c =
-    let e = beginning c.requires.0 (c.is_expansion.ensures c.requires.0) c.if-not-is_expansion.false in
-    c.call_prepared.ensures e ∙ call-lent _ _ c.requires.0 e.begins c.args.s.now c.args.k.now
+    let h = accepted-of c.in_ok-accepted.accepted.accepted in
+    let b = accepted-moved (sym c.in_ok-accepted.ensures.0) h.0 in
+    let e = beginning b (sym c.in_ok-check_words.was ∙ c.check_words.ensures.is h.0) in
+    c.call_prepared.ensures e ∙ call-lent _ _ b e.begins c.args.s.now c.args.k.now

@@ -1,37 +1,35 @@
--- `start_lent` meets its contract: the tests 11 and 12, and then the start on the steps.
+-- `start_lent` meets its contract: the file, the tests 11 and 12, and then the start on the steps.
 use mathlib.Core.Path.{sym, ◌∙◌}
-use native.Mathlib.Omega.{arith}
-use Rattle.access.proofs.Using.{tree_of, few-steps}
-use Rattle.runner.proofs.Lent.{beginning, few-tested, other-tested, start-refused, start-lent, tabled}
+use Rattle.std.proofs.lemmas.Result.{err_from_is_err_and}
+use Rattle.access.proofs.Kept.{accepted-of, accepted-moved}
+use Rattle.access.proofs.Using.{refused-file, tree_of}
+use Rattle.runner.proofs.Lent.{beginning, file-start, start-refused, start-lent, tabled}
 use Rattle.runner.proofs.expanded.start_lent.Goals as goal
 
-pub overflow_mul-steps : goal.overflow_mul-steps
-overflow_mul-steps c = omega (arith, c.requires.1, few-steps c.requires.0)
+pub returns-in_err-accepted : goal.returns-in_err-accepted
+returns-in_err-accepted c =
+    let p = err_from_is_err_and c.from_residual.result c.from_residual.ensures.1 in
+    rw (p.1, p.2) (file-start _ _ (refused-file _ _ c.in_err-accepted.ensures))
 
-pub returns-then-words-steps : goal.returns-then-words-steps
-returns-then-words-steps c =
-    rw (c.refused_start.ensures, c.refusal.ensures)
-    (start-refused _ _ c.requires.0 11 (few-tested _ c.args.words.now c.requires.0 (omega (arith, c.if-words-steps.true, c.requires.1))))
-
-pub returns-then-not-is_expansion : goal.returns-then-not-is_expansion
-returns-then-not-is_expansion c =
-    rw (c.refused_start-then-not-is_expansion.ensures, c.refusal-then-not-is_expansion.ensures)
-    (start-refused _ _ c.requires.0 12
-    (other-tested _ _ c.requires.0 (omega (arith, c.if-words-steps.false, c.requires.1))
-    (sym (c.is_expansion.ensures c.requires.0) ∙ c.if-not-is_expansion.true)))
+pub returns-in_err-check_words : goal.returns-in_err-check_words
+returns-in_err-check_words c =
+    let p = err_from_is_err_and c.from_residual-in_err-check_words.result c.from_residual-in_err-check_words.ensures.1 in
+    let a = (accepted-of c.in_ok-accepted.accepted.accepted).0 in
+    rw (p.1, p.2) (start-refused _ _ (accepted-moved (sym c.in_ok-accepted.ensures.0) a) (sym c.in_err-check_words.was ∙ c.check_words.ensures.is a))
 
 pub index_nodes-nodes-requires : goal.index_nodes-nodes-requires
-index_nodes-nodes-requires c = tabled (beginning c.requires.0 (c.is_expansion.ensures c.requires.0) c.if-not-is_expansion.false) c.requires.1
-
-pub fields-requires : goal.fields-requires
-fields-requires c = tree_of c.requires.0
+index_nodes-nodes-requires c =
+    let h = accepted-of c.in_ok-accepted.accepted.accepted in
+    tabled (beginning h.0 (sym c.in_ok-check_words.was ∙ c.check_words.ensures.is h.0)) h.1
 
 pub invariant_of-start_prepared : goal.invariant_of-start_prepared
 invariant_of-start_prepared c =
-    let e = beginning c.requires.0 (c.is_expansion.ensures c.requires.0) c.if-not-is_expansion.false in
-    record { walkable = ∣ record { expanded = e; indexed = c.index_nodes-nodes.ensures _ e c.requires.1; counts = c.fields.ensures (tree_of c.requires.0) } ∣₁ }
+    let h = accepted-of c.in_ok-accepted.accepted.accepted in
+    let e = beginning (accepted-moved (sym c.in_ok-accepted.ensures.0) h.0) (sym c.in_ok-check_words.was ∙ c.check_words.ensures.is h.0) in
+    record { walkable = ∣ record { expanded = e; indexed = c.index_nodes-nodes.ensures _ e h.1; counts = c.fields.ensures (tree_of h.0) } ∣₁ }
 
 pub returns : goal.returns
 returns c =
-    let e = beginning c.requires.0 (c.is_expansion.ensures c.requires.0) c.if-not-is_expansion.false in
-    c.start_prepared.ensures e ∙ start-lent _ _ c.requires.0 e.begins
+    let h = accepted-of c.in_ok-accepted.accepted.accepted in
+    let e = beginning (accepted-moved (sym c.in_ok-accepted.ensures.0) h.0) (sym c.in_ok-check_words.was ∙ c.check_words.ensures.is h.0) in
+    c.start_prepared.ensures e ∙ start-lent _ _ (accepted-moved (sym c.in_ok-accepted.ensures.0) h.0) e.begins
