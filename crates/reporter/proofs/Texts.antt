@@ -15,9 +15,10 @@ use Rattle.rules.specs.Basics.{joined, each, padded}
 use Rattle.rules.specs.Judging.{verdict}
 use Rattle.rules.specs.Reporting.{digits, decimal, spaced, rule_line}
 use Rattle.access.specs.declared.Layout.{Layout}
-use Rattle.access.specs.Trees.{TreeRead, AcceptedFile}
-use Rattle.access.specs.Places.{Laid, LaidOut}
-use Rattle.access.proofs.Using.{counts, tree-bounds, tree_of}
+use Rattle.access.specs.Trees.{TreeRead}
+use Rattle.access.specs.Places.{Laid}
+use Rattle.access.proofs.Kept.{laid-of, read-of}
+use Rattle.access.proofs.Using.{counts, tree-bounds}
 use Rattle.reporter.specs.Texts.{Filled}
 use borrow.Rule.Slice.PartMut.{put_mid, post_of}
 
@@ -59,43 +60,47 @@ digits-short (suc k) m = go (ltb m 10) (digits-short k (m / 10))
 stored : (ds : List ℕ) (i d : ℕ) → i < length ds → drop i (set ds i d) ≡ d ∷ drop (suc i) ds
 stored ds i d h = ap (drop i) (set_split ds i d h) ∙ drop_at (take i ds) (d ∷ drop (suc i) ds) i (length-take-le i ds (omega arith))
 
--- the digits of what is left of a number, and then those from the i-th on, are the number's
-pub record Left (n i m : ℕ) (ds : List ℕ) : Type 0 where
+-- the k digits or fewer of what is left of a number, and then those from the k-th on, are the number's
+pub record Left (n k m : ℕ) (ds : List ℕ) : Type 0 where
   pub full : length ds ≡ 10
-  pub small : m < 10 ^ suc i
-  pub is : decimal n ≡ digits (suc i) m ++ drop (suc i) ds
+  pub small : m < 10 ^ k
+  pub is : decimal n ≡ digits k m ++ drop k ds
 
-pub left-all : (n : ℕ) → n < 2 ^ 32 → Left n 9 n (replicate 10 0)
+pub left-all : (n : ℕ) → n < 2 ^ 32 → Left n 10 n (replicate 10 0)
 unfolding decimal
 left-all n h = record { full = refl; small = omega arith; is = sym (append-nil (digits 10 n)) }
 
-pub left-room : (n i m : ℕ) {ds : List ℕ} → 10 ≤ m → Left n i m ds → 1 ≤ i
-left-room n zero m h l = absurd (omega (arith, l.small))
-left-room n (suc i) m h l = omega arith
+pub left-none : (n k m : ℕ) {ds : List ℕ} → k ≤ 0 → Left n k m ds → m ≡ 0
+left-none n zero m h l = omega (arith, l.small)
+left-none n (suc k) m h l = absurd (omega arith)
 
-pub left-more : (n i m d : ℕ) {ds : List ℕ} → i < 10 → 10 ≤ m → d ≡ 48 + m % 10 → Left n i m ds → Left n (i - 1) (m / 10) (set ds i d)
-left-more n zero m d less h e l = absurd (omega (arith, l.small))
-left-more n (suc i) m d {ds} less h e l =
-    let here : suc i < length ds = omega (arith, l.full) in
-    let big : m < 10 * 10 ^ suc i = subst (λ (x : ℕ). m < x) (pow-suc 10 (suc i) ∙ mul_comm (10 ^ suc i) 10) l.small in
+pub left-more : (n k m d : ℕ) {ds : List ℕ} → 0 < k → k ≤ 10 → 10 ≤ m → d ≡ 48 + m % 10 → Left n k m ds → Left n (k - 1) (m / 10) (set ds (k - 1) d)
+left-more n zero m d some less h e l = absurd (omega arith)
+left-more n (suc i) m d {ds} some less h e l =
+    let here : i < length ds = omega (arith, l.full) in
+    let big : m < 10 * 10 ^ i = subst (λ (x : ℕ). m < x) (pow-suc 10 i ∙ mul_comm (10 ^ i) 10) l.small in
     let z : i ≡ suc i - 1 = omega arith in
-    subst (λ (k : ℕ). Left n k (m / 10) (set ds (suc i) d)) z
+    subst (λ (k : ℕ). Left n k (m / 10) (set ds k d)) z
     (record {
-      full = length-set ds (suc i) d ∙ l.full;
+      full = length-set ds i d ∙ l.full;
       small = omega (arith, big);
       is =
-          l.is ∙ ap (λ (x : List ℕ). x ++ drop (suc (suc i)) ds) (digits_more (suc i) m h)
-          ∙ append_snoc (digits (suc i) (m / 10)) (48 + m % 10) (drop (suc (suc i)) ds)
-          ∙ ap (λ (x : ℕ). digits (suc i) (m / 10) ++ x ∷ drop (suc (suc i)) ds) (sym e)
-          ∙ ap (λ (x : List ℕ). digits (suc i) (m / 10) ++ x) (sym (stored ds (suc i) d here));
+          l.is ∙ ap (λ (x : List ℕ). x ++ drop (suc i) ds) (digits_more i m h)
+          ∙ append_snoc (digits i (m / 10)) (48 + m % 10) (drop (suc i) ds)
+          ∙ ap (λ (x : ℕ). digits i (m / 10) ++ x ∷ drop (suc i) ds) (sym e)
+          ∙ ap (λ (x : List ℕ). digits i (m / 10) ++ x) (sym (stored ds i d here));
     })
 
--- with the last digit stored, the digits are those from the i-th on
-pub left_one : (n i m d : ℕ) {ds : List ℕ} → i < 10 → m < 10 → d ≡ 48 + m % 10 → Left n i m ds → take (10 - i) (drop i (set ds i d)) ≡ decimal n
-left_one n i m d {ds} less h e l =
+-- with the last digit stored, the digits are those from there on
+pub left_one : (n k m d : ℕ) {ds : List ℕ} → 0 < k → k ≤ 10 → m < 10 → d ≡ 48 + m % 10 → Left n k m ds
+    → take (10 - (k - 1)) (drop (k - 1) (set ds (k - 1) d)) ≡ decimal n
+left_one n zero m d some less h e l = absurd (omega arith)
+left_one n (suc i) m d {ds} some less h e l =
     let here : i < length ds = omega (arith, l.full) in
-    take_all (10 - i) (drop i (set ds i d)) (omega (arith, length-drop i (set ds i d), length-set ds i d, l.full))
-    ∙ stored ds i d here ∙ ap (λ (x : ℕ). x ∷ drop (suc i) ds) e ∙ sym (l.is ∙ ap (λ (x : List ℕ). x ++ drop (suc i) ds) (digits-one i m h))
+    let z : i ≡ suc i - 1 = omega arith in
+    subst (λ (k : ℕ). take (10 - k) (drop k (set ds k d)) ≡ decimal n) z
+    (take_all (10 - i) (drop i (set ds i d)) (omega (arith, length-drop i (set ds i d), length-set ds i d, l.full))
+    ∙ stored ds i d here ∙ ap (λ (x : ℕ). x ∷ drop (suc i) ds) e ∙ sym (l.is ∙ ap (λ (x : List ℕ). x ++ drop (suc i) ds) (digits-one i m h)))
 
 -- ---- a text at the front of zeros
 
@@ -150,5 +155,5 @@ line file i = rule_line i (verdict file i (replicate 5120 0)).answer
 pub few : {file : List ℕ} {l : Layout} → Laid file l → TreeRead file → l.rules.count ≤ 8
 few h t = omega (arith, (counts h t).2, (tree-bounds t).rules)
 
-pub few-laid : {file : List ℕ} {l : Layout} → AcceptedFile file → ((a : TreeRead file) → LaidOut file a.tree l) → l.rules.count ≤ 8
-few-laid a h = let t = tree_of a in few (record { read = t; out = h t }) t
+pub few-rules : {file : List ℕ} {l : Layout} → ∥ Laid file l ∥₁ → l.rules.count ≤ 8
+few-rules h = few (laid-of h) (read-of h)

@@ -12,8 +12,8 @@ ghost use Rattle.access.specs.Trees.{AcceptedFile};
 
 use crate::lines::{put_refusal, put_rule, put_steps};
 use crate::page::Page;
-use access::places::layout;
-use reader::read;
+use reader::accept;
+use reader::accepted::Accepted;
 use rules::Judged;
 use runner::accepted::start_accepted;
 use searcher::search::is_completed;
@@ -24,29 +24,29 @@ pub fn report(file: &[u8]) -> Page
     ensures { result ≡ report_of file.now }
 {
     let mut page = Page::new();
-    match read(file) {
+    match accept(file) {
         Err(r) => put_refusal(&mut page, r),
-        Ok(n) => {
-            put_steps(&mut page, n);
-            put_rules(file, &mut page);
+        Ok(accepted) => {
+            put_steps(&mut page, accepted.steps as u32);
+            put_rules(&accepted, &mut page);
         }
     }
     page
 }
 
 // A line for each rule, or that the start failed.
-fn put_rules(file: &[u8], page: &mut Page)
-    requires { AcceptedFile file.now × (length page.old + 976 ≤ 1024) }
-    ensures { (a : AcceptedFile file.now) →
-        page.new ≡ page.old ++ rule_lines file.now a.tree (is_completed (start_tree a.tree).answer) }
+fn put_rules(accepted: &Accepted, page: &mut Page)
+    requires { length page.old + 976 ≤ 1024 }
+    ensures { (a : AcceptedFile accepted.now.parsed.file.now) →
+        page.new ≡ page.old ++ rule_lines accepted.now.parsed.file.now a.tree (is_completed (start_tree a.tree).answer) }
 {
-    if !is_completed(start_accepted(file).answer) {
+    if !is_completed(start_accepted(accepted).answer) {
         page.put(b"start refused 27\n");
         return;
     }
-    let count = layout(file).rules.count;
-    for i in 0..count {
-        put_rule(page, i as u32, judged(file, i as u32));
+    let parsed = &accepted.parsed;
+    for i in 0..parsed.layout.rules.count {
+        put_rule(page, i as u32, judged(parsed.file, i as u32));
     }
 }
 

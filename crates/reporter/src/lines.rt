@@ -1,4 +1,5 @@
-// The report's lines. For our own crates only: a caller has to see that the page has room.
+// The report's lines. For our own crates only: a caller has to see that the page has room. The clauses on room stay, for no type can
+// hold them: each line asks for its own length.
 ghost use Rattle.std.specs.Prelude.{◌≡◌, ◌+◌, ◌*◌, ◌≤◌, ◌++◌, length};
 ghost use Rattle.rules.specs.Basics.{joined};
 ghost use Rattle.rules.specs.Reporting.{spaced, refused_line, steps_line, verdict_part, rule_line};
@@ -23,8 +24,7 @@ pub fn put_steps(page: &mut Page, steps: u32)
     ensures after { page.new ≡ page.old ++ steps_line steps }
     ensures short { length page.new ≤ length page.old + 17 }
 {
-    page.put(b"steps");
-    page.put_spaced(steps);
+    put_numbered(page, b"steps", steps);
     page.put(b"\n");
 }
 
@@ -39,13 +39,14 @@ fn put_rows(page: &mut Page, rows: &[u8])
     }
 }
 
-fn put_tried(page: &mut Page, word: &[u8], tried: u32)
+// A word and a number.
+fn put_numbered(page: &mut Page, word: &[u8], n: u32)
     requires { length page.old + (length word.now + 11) ≤ 1024 }
-    ensures after { page.new ≡ page.old ++ (word.now ++ spaced tried) }
+    ensures after { page.new ≡ page.old ++ (word.now ++ spaced n) }
     ensures short { length page.new ≤ length page.old + (length word.now + 11) }
 {
     page.put(word);
-    page.put_spaced(tried);
+    page.put_spaced(n);
 }
 
 #[tactic(auto, unfolding(rules::specs::Reporting::verdict_part))]
@@ -56,12 +57,12 @@ fn put_verdict(page: &mut Page, j: Judged)
 {
     match j.verdict {
         Verdict::Broken(tried, count) => {
-            put_tried(page, b" broken", tried);
+            put_numbered(page, b" broken", tried);
             put_rows(page, &j.rows[..usize::from(count).min(8)]);
         }
-        Verdict::Held(tried) => put_tried(page, b" held", tried),
-        Verdict::Spent(tried) => put_tried(page, b" spent", tried),
-        Verdict::Refused(r) => put_tried(page, b" refused", u32::from(r.number)),
+        Verdict::Held(tried) => put_numbered(page, b" held", tried),
+        Verdict::Spent(tried) => put_numbered(page, b" spent", tried),
+        Verdict::Refused(r) => put_numbered(page, b" refused", u32::from(r.number)),
     }
 }
 
@@ -71,7 +72,7 @@ pub fn put_rule(page: &mut Page, i: u32, j: Judged)
     ensures after { page.new ≡ page.old ++ rule_line i j }
     ensures short { length page.new ≤ length page.old + 122 }
 {
-    put_tried(page, b"rule", i);
+    put_numbered(page, b"rule", i);
     put_verdict(page, j);
     page.put(b"\n");
 }

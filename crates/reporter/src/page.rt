@@ -4,7 +4,8 @@ ghost use Rattle.rules.specs.Reporting.{decimal, spaced};
 
 use std::marker::Model;
 
-// A text of at most 1,024 bytes, and zeros behind it. A fixed buffer with a length, as the product uses no heap.
+// A text of at most 1,024 bytes, and zeros behind it. A fixed buffer with a length, as the product uses no heap. No one generic type
+// with walker's `Entries`: a page takes whole texts and promises the zeros, entries are 32-bit places and promise nothing behind them.
 #[derive(Drop)]
 pub struct Page {
     bytes: [u8; 1024],
@@ -47,22 +48,22 @@ impl Page {
         self.length = end;
     }
 
-    // The digits, the last one first.
+    // The digits, the last one first; ten are enough for any u32. No `Display`: it writes through a writer that may fail.
     pub fn put_number(&mut self, n: u32)
         requires { length self.old + 10 ≤ 1024 }
         ensures after { self.new ≡ self.old ++ decimal n }
         ensures short { length self.new ≤ length self.old + 10 }
     {
         let mut digits = [0u8; 10];
-        let mut i: usize = 9;
         let mut m = n;
-        while 10 <= m {
-            digits[i] = (48 + m % 10) as u8;
+        for i in (0..10).rev() {
+            digits[i] = b'0' + (m % 10) as u8;
             m /= 10;
-            i -= 1;
+            if m == 0 {
+                self.put(&digits[i..]);
+                return;
+            }
         }
-        digits[i] = (48 + m) as u8;
-        self.put(&digits[i..]);
     }
 
     #[tactic(auto, unfolding(rules::specs::Reporting::spaced))]

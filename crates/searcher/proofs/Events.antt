@@ -3,7 +3,7 @@
 use Rattle.std.specs.Prelude.{Some}
 use Prim.Native.Nat.{ℕ, suc, zero, ◌-◌, ◌≤◌}
 use mathlib.Core.Path.{◌≡◌, refl, sym, ap, subst, subst₂, ◌∙◌}
-use mathlib.Core.Bool.{Bool, true, false, ◌&&◌, ◌||◌}
+use mathlib.Core.Bool.{Bool, true, false, ◌&&◌, ◌||◌, beq}
 use mathlib.Core.Bool
 use mathlib.Core.List.{List, [], ◌∷◌}
 use mathlib.Core.Logic.{◌⊎◌, inl, inr}
@@ -133,8 +133,22 @@ module _ (e : Expr) (s : Status) (v : Event) (es : List Event) where
 abbrev pub counted : (q : ℕ) → Status → (name : ℕ) → Status
 counted q s n = record { broken = s.broken; seen = s.seen || eqb n q }
 
+pub alike : (a b : Bool) → beq a b ≡ true → a ≡ b
+alike true true h = refl
+alike false false h = refl
+alike true false h = sym h
+alike false true h = h
+
+pub unlike : (a b c : Bool) → beq a b ≡ false → b ≡ Bool.not c → a ≡ c
+unlike true true c h k = absurd cc
+unlike false false c h k = absurd cc
+unlike true false true h k = refl
+unlike true false false h k = absurd cc
+unlike false true true h k = absurd cc
+unlike false true false h k = refl
+
 module _ (p q : ℕ) (s : Status) (v : Event) (es : List Event) where
-  pub not-after-broken : v.name ≡ p → s.seen ≡ true → breaks_after (not_after p q) (record { broken = true; seen = true }) es ≡ breaks_after (not_after p q) s (v ∷ es)
+  pub not-after-broken : v.name ≡ p → s.seen ≡ true → breaks_after (not_after p q) (record { broken = true; seen = s.seen }) es ≡ breaks_after (not_after p q) s (v ∷ es)
   unfolding breaks_after any later
   not-after-broken h k = rw (k, eq-eqb p v.name (sym h)) (go s.broken)
     where
@@ -154,7 +168,7 @@ module _ (p q : ℕ) (s : Status) (v : Event) (es : List Event) where
       go false true false false l = refl
   not-after-counted (inr h) = rw h
 
-  pub only-after-broken : v.name ≡ p → Bool.not s.seen ≡ true → breaks_after (only_after p q) (record { broken = true; seen = false }) es ≡ breaks_after (only_after p q) s (v ∷ es)
+  pub only-after-broken : v.name ≡ p → s.seen ≡ false → breaks_after (only_after p q) (record { broken = true; seen = s.seen }) es ≡ breaks_after (only_after p q) s (v ∷ es)
   unfolding breaks_after unpreceded
   only-after-broken h k = rw (k, eq-eqb v.name p h) (go s.broken)
     where

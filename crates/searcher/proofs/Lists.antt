@@ -1,6 +1,7 @@
 -- The rows that a verdict shows, and the rows that are read.
 -- Assumes nothing.
-use Prim.Native.Nat.{ℕ, ◌+◌, ◌-◌, ◌*◌, ◌<◌, ◌≤◌}
+use Rattle.std.specs.Prelude.{Result, Ok, Err, MatchResult, IsErrAnd}
+use Prim.Native.Nat.{ℕ, ◌+◌, ◌-◌, ◌≤◌}
 use mathlib.Core.Path.{◌≡◌, refl, sym, ap, subst, ◌∙◌}
 use mathlib.Core.List.{List, [], ◌∷◌, ◌++◌, append_assoc}
 use native.Mathlib.Omega.{arith}
@@ -13,7 +14,7 @@ use Rattle.rules.specs.Judging.{Ruling, broken, held, spent, judged, judged_of}
 use Rattle.access.specs.declared.Layout.{Layout}
 use Rattle.access.specs.Places.{Laid}
 use Rattle.access.proofs.Using.{counts, tree-bounds}
-use Rattle.searcher.specs.Searching.{continued}
+use Rattle.searcher.specs.Searching.{continued, going}
 
 -- ---- the rows that a verdict shows: zeros, until each is put in
 
@@ -46,20 +47,32 @@ module _ (at row : ℕ) where
 
   module _ (n : ℕ) (f : Judged) where
     -- a broken list's row is put in
-    pub row-shown : (v : Ruling) → f ≡ judged_of (continued n (replicate (at + 1) 0) v) → {i j : ℕ} → f.verdict ≡ Broken i j
-        → record { verdict = f.verdict; rows = set f.rows at row } ≡ judged_of (continued n (replicate at 0 ++ (row ∷ [])) v)
-    unfolding continued judged_of judged
-    row-shown (broken m k) e h = rw (e, row_put k, same_length k)
-    row-shown (held m) e h = absurd (let z : ◌≡◌ {A = ℕ} 0 1 = cc in omega arith)
-    row-shown (spent m) e h = absurd (let z : ◌≡◌ {A = ℕ} 0 1 = cc in omega arith)
+    pub row-shown : (v : Ruling) → going (continued n (replicate (at + 1) 0) v) ≡ Err f → {i j : ℕ} → f.verdict ≡ Broken i j
+        → going (continued n (replicate at 0 ++ (row ∷ [])) v) ≡ Err (record { verdict = f.verdict; rows = set f.rows at row })
+    unfolding going continued judged_of judged
+    row-shown (broken m k) e h = let w : judged_of (broken (n + m) (replicate (at + 1) 0 ++ k)) ≡ f = cc in rw (← w, row_put k, same_length k)
+    row-shown (held m) e h = absurd cc
+    row-shown (spent m) e h = absurd (let w : judged_of (spent (n + m)) ≡ f = cc in let z : ◌≡◌ {A = ℕ} 0 1 = cc in omega arith)
 
     -- no other verdict depends on the rows
-    pub row-unshown : (v : Ruling) → f ≡ judged_of (continued n (replicate (at + 1) 0) v) → ((i j : ℕ) → f.verdict ≡ Broken i j → ⊥)
-        → f ≡ judged_of (continued n (replicate at 0 ++ (row ∷ [])) v)
-    unfolding continued judged_of judged
-    row-unshown (broken m k) e h = absurd (h _ _ (ap (λ (f : Judged). f.verdict) e))
-    row-unshown (held m) e h = e
+    pub row-unshown : (v : Ruling) → going (continued n (replicate (at + 1) 0) v) ≡ Err f → ((i j : ℕ) → f.verdict ≡ Broken i j → ⊥)
+        → going (continued n (replicate at 0 ++ (row ∷ [])) v) ≡ Err f
+    unfolding going continued judged_of judged
+    row-unshown (broken m k) e h = absurd (let w : judged_of (broken (n + m) (replicate (at + 1) 0 ++ k)) ≡ f = cc in h _ _ (ap (λ (f : Judged). f.verdict) (sym w)))
+    row-unshown (held m) e h = absurd cc
     row-unshown (spent m) e h = e
+
+  -- a row is put in where a list breaks the rule, and else nothing
+  pub row-behind : (n : ℕ) (v : Ruling) {P : Judged → Judged → Type 0} {r s : Result ℕ Judged}
+      → ((f g : Judged) → P f g → going (continued n (replicate (at + 1) 0) v) ≡ Err f → going (continued n (replicate at 0 ++ (row ∷ [])) v) ≡ Err g)
+      → MatchResult r (λ x. s ≡ Ok x) (λ f. IsErrAnd s (P f)) → r ≡ going (continued n (replicate (at + 1) 0) v)
+      → s ≡ going (continued n (replicate at 0 ++ (row ∷ [])) v)
+  unfolding going continued
+  row-behind n (broken m k) {r = Ok x} puts e h = absurd cc
+  row-behind n (held m) {r = Ok x} puts e h = e ∙ h
+  row-behind n (spent m) {r = Ok x} puts e h = absurd cc
+  row-behind n v {r = Err f} {s = Ok x} puts e h = absurd e
+  row-behind n v {r = Err f} {s = Err g} puts e h = sym (puts f g e (sym h))
 
 -- ---- the rows that are read
 

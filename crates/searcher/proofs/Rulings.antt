@@ -5,7 +5,7 @@
 --     goes, stops, done one turn of a loop over the parts, and its end
 --     all_held, ..      lists of which none breaks the rule, ruled on again under another bound
 -- Assumes nothing.
-use Rattle.std.specs.Prelude.{if◌then◌else◌}
+use Rattle.std.specs.Prelude.{if◌then◌else◌, Result, Ok, Err, IsErrAnd}
 use Prim.Native.Nat.{ℕ, zero, suc, ◌+◌, ◌-◌, ◌<◌, ◌≤◌}
 use mathlib.Core.Path.{◌≡◌, refl, sym, ap, fun_ext, ◌∙◌}
 use mathlib.Core.Bool.{Bool, true, false}
@@ -23,7 +23,7 @@ use Rattle.rules.specs.Basics.{each}
 use Rattle.rules.specs.Lists.{lists_of, lists_to}
 use Rattle.rules.specs.Judging.{Ruling, broken, held, spent, First, at, nowhere, first, first_from, ruled_by, ruled_on, judged, judged_of}
 use Rattle.rules.proofs.Firsts.{one_later, first-cons}
-use Rattle.searcher.specs.Searching.{continued}
+use Rattle.searcher.specs.Searching.{continued, going}
 
 -- ---- continued rulings
 
@@ -38,6 +38,25 @@ unfolding continued
 continued-twice n m l k (broken i j) = let z : n + (m + i) ≡ n + m + i = omega arith in rw (z, append_assoc)
 continued-twice n m l k (held i) = ap held (omega arith)
 continued-twice n m l k (spent i) = ap spent (omega arith)
+
+-- ---- what a ruling says where the search has ended
+
+pub all_tried : (v : Ruling) (n : ℕ) → going v ≡ Ok n → judged (Held n) [] ≡ judged_of v
+unfolding going judged_of
+all_tried (broken m k) n h = absurd cc
+all_tried (held m) n h = let z : m ≡ n = cc in rw z
+all_tried (spent m) n h = absurd cc
+
+pub was-found : (v : Ruling) (j : Judged) → going v ≡ Err j → j ≡ judged_of v
+unfolding going
+was-found (broken m k) j h = cc
+was-found (held m) j h = absurd cc
+was-found (spent m) j h = cc
+
+-- an error that is handed on
+pub failed : (r : Result ℕ Judged) (j : Judged) → IsErrAnd r (λ i. i ≡ j) → r ≡ Err j
+failed (Ok n) j h = absurd h
+failed (Err i) j h = ap Err h
 
 -- ---- a ruling, list by list
 
@@ -152,11 +171,11 @@ module _ (bound : ℕ) (p : List ℕ → Bool) (l : List ℕ) where
       let e : q ≡ (λ m. p (r ∷ m)) = fun_ext h in
       rw (pushed p r (bound - n) xs, continued-twice n 0 l (r ∷ []) (ruled_on (bound - n) (λ m. p (r ∷ m)) xs), z, e)
 
-  held-verdict : (v : Ruling) (m : ℕ) → (judged_of v).verdict ≡ Held m → v ≡ held m
-  unfolding judged_of judged
-  held-verdict (broken n k) m h = absurd (let z : ◌≡◌ {A = ℕ} 0 1 = cc in omega arith)
-  held-verdict (held n) m h = cc
-  held-verdict (spent n) m h = absurd (let z : ◌≡◌ {A = ℕ} 0 1 = cc in omega arith)
+  went-on : (v : Ruling) (m : ℕ) → going v ≡ Ok m → v ≡ held m
+  unfolding going
+  went-on (broken n k) m h = absurd cc
+  went-on (held n) m h = cc
+  went-on (spent n) m h = absurd cc
 
   joined-held : (n m : ℕ) (xs ys : List (List ℕ)) → onward n xs ≡ held m → onward n (xs ++ ys) ≡ onward m ys
   unfolding continued and_then
@@ -184,17 +203,14 @@ module _ (bound : ℕ) (p : List ℕ → Bool) (l : List ℕ) where
     unfolding continued
     done h = rw (each_none F i e h, ruled-nil p (bound - n)) (ap held (omega arith))
 
-    pub goes : (g : Judged) (m : ℕ) → i < e → g ≡ judged_of (onward n (F i)) → g.verdict ≡ Held m
-        → onward n (each F i (e - i)) ≡ onward m (each F (i + 1) (e - (i + 1)))
-    goes g m h q f =
-        rw (each_turn F i e h)
-        (joined-held n m (F i) (each F (i + 1) (e - (i + 1))) (held-verdict (onward n (F i)) m (ap (λ (g : Judged). g.verdict) (sym q) ∙ f)))
+    pub goes : (m : ℕ) → i < e → Ok m ≡ going (onward n (F i)) → onward n (each F i (e - i)) ≡ onward m (each F (i + 1) (e - (i + 1)))
+    goes m h f = rw (each_turn F i e h) (joined-held n m (F i) (each F (i + 1) (e - (i + 1))) (went-on (onward n (F i)) m (sym f)))
 
-    pub stops : (g : Judged) → i < e → g ≡ judged_of (onward n (F i)) → ((m : ℕ) → g.verdict ≡ Held m → ⊥) → g ≡ judged_of (onward n (each F i (e - i)))
-    unfolding judged_of judged
-    stops g h q f =
+    pub stops : (j : Judged) → i < e → Err j ≡ going (onward n (F i)) → Err j ≡ going (onward n (each F i (e - i)))
+    unfolding going
+    stops j h f =
         rw (each_turn F i e h)
-        (q ∙ ap judged_of (sym (joined-ends n (F i) (each F (i + 1) (e - (i + 1))) (λ m z. f m (ap (λ (g : Judged). g.verdict) q ∙ ap (λ (v : Ruling). (judged_of v).verdict) z)))))
+        (f ∙ ap going (sym (joined-ends n (F i) (each F (i + 1) (e - (i + 1))) (λ m z. absurd (let w = ap going z in cc)))))
 
 -- all the lists, by length
 pub whole : (bound : ℕ) (p : List ℕ → Bool) (k depth : ℕ) → ruled_on bound p (lists_to k depth) ≡ onward bound p [] 0 (each (lists_of k) 0 (suc depth - 0))
@@ -223,9 +239,10 @@ module _ (bound : ℕ) (p : List ℕ → Bool) (l : List ℕ) (n : ℕ) where
   unfolding continued
   end-broken h b = end-next h ∙ rw (b, append-nil)
 
-  pub end-held : n < bound → p [] ≡ false → onward bound p l n ([] ∷ []) ≡ held (n + 1)
-  unfolding continued
-  end-held h b = end-next h ∙ rw b
+-- the empty list alone, where it does not break the rule
+pub one-held : (p : List ℕ → Bool) → p [] ≡ false → ruled_on 1 p ([] ∷ []) ≡ held 1
+unfolding continued
+one-held p b = rw (ruled-cons p 0 [] [], ruled-nil p 0, b)
 
 -- ---- lists of which none breaks the rule, under another bound
 
@@ -282,11 +299,10 @@ module _ (bound : ℕ) (p : List ℕ → Bool) (l : List ℕ) (t n : ℕ) (xs : 
   at-once-spent less m e = let a = all_held p xs n n h in rw (none-spent p xs n a.2 a.0 (bound - t) less, e)
 
 -- what was held after t others is held by itself
-pub held-alone : (bound : ℕ) (p : List ℕ → Bool) (l : List ℕ) (t m : ℕ) (xs : List (List ℕ)) (f : Judged)
-    → f ≡ judged_of (onward bound p l t xs) → f.verdict ≡ Held m → (t ≤ m) × (ruled_on (m - t) p xs ≡ held (m - t))
+pub held-alone : (bound : ℕ) (p : List ℕ → Bool) (l : List ℕ) (t m : ℕ) (xs : List (List ℕ))
+    → Ok m ≡ going (onward bound p l t xs) → (t ≤ m) × (ruled_on (m - t) p xs ≡ held (m - t))
 unfolding continued
-held-alone bound p l t m xs f e h =
-    go (ruled_on (bound - t) p xs) refl (held-verdict bound p l (onward bound p l t xs) m (ap (λ (f : Judged). f.verdict) (sym e) ∙ h))
+held-alone bound p l t m xs h = go (ruled_on (bound - t) p xs) refl (went-on bound p l (onward bound p l t xs) m (sym h))
   where
     go : (v : Ruling) → ruled_on (bound - t) p xs ≡ v → continued t l v ≡ held m → (t ≤ m) × (ruled_on (m - t) p xs ≡ held (m - t))
     go (broken i k) d h = absurd (let z : ◌≡◌ {A = ℕ} 0 1 = cc in omega arith)

@@ -2,16 +2,16 @@
 use Rattle.std.specs.Prelude.{ℕ, ◌-◌, ◌<◌, ◌≡◌, Bool, List, length, All, get_or, ◌≤◌}
 use Rattle.rules.specs.declared.Call.{Call}
 use Rattle.rules.specs.declared.Fields.{Fields}
-use Rattle.rules.specs.declared.Judged.{Judged}
 use Rattle.rules.specs.Syntax.{Rule}
 use Rattle.rules.specs.Calling.{no_call}
 use Rattle.rules.specs.Lists.{lists_of}
-use Rattle.rules.specs.Judging.{held, ruled_on, judged_of}
+use Rattle.rules.specs.Judging.{Ruling, held, ruled_on}
 use Rattle.access.specs.declared.RuleAt.{RuleAt}
 use Rattle.access.specs.Trees.{AcceptedFile}
 use Rattle.walker.specs.Tables.{Expanded}
 use Rattle.searcher.specs.declared.Position.{Position}
 use Rattle.searcher.specs.declared.cache.Entry.{Entry}
+use Rattle.searcher.specs.declared.cache.Key.{Key}
 use Rattle.searcher.specs.declared.plan.Search.{Search}
 use Rattle.searcher.specs.Standing.{Holds}
 use Rattle.searcher.specs.Searching.{continued, breaks_from}
@@ -33,14 +33,14 @@ module _ {file words : List ℕ} {fields : Fields} {rule : RuleAt} {rows : List 
   abbrev pub breaks_in : Position → List ℕ → Bool
   breaks_in = breaks_from g.accepted.tree g.judged
 
-  -- the verdict on lists behind some rows that led to a position, after so many others
-  abbrev pub verdict_after : (bound : ℕ) → Position → (tried : ℕ) (rows : List ℕ) (lists : List (List ℕ)) → Judged
-  verdict_after bound p tried rows lists = judged_of (continued tried rows (ruled_on (bound - tried) (breaks_in p) lists))
+  -- the ruling on lists behind some rows that led to a position, after so many others
+  abbrev pub ruling_after : (bound : ℕ) → Position → (tried : ℕ) (rows : List ℕ) (lists : List (List ℕ)) → Ruling
+  ruling_after bound p tried rows lists = continued tried rows (ruled_on (bound - tried) (breaks_in p) lists)
 
 -- the lists of so many rows from a position on are n, and none of them breaks the rule
-abbrev pub NoneBreaks : Search → (n left : ℕ) → Position → Type 0
-NoneBreaks s n left p = (g : PlannedBy s) → ruled_on n (breaks_in g p) (lists_of (length s.rows.now) left) ≡ held n
+abbrev pub NoneBreaks : Search → (n : ℕ) → Key → Type 0
+NoneBreaks s n k = (g : PlannedBy s) → ruled_on n (breaks_in g k.position) (lists_of (length s.rows.now) k.left) ≡ held n
 
 -- every entry that is not empty stands for such lists
-abbrev pub Sound : Search → List Entry → Type 0
-Sound s cache = All (λ (e : Entry). (e.number ≡ 0 → ⊥) → NoneBreaks s e.number e.left e.position) cache
+abbrev pub Sound : Search → (cache : List (List Entry)) → Type 0
+Sound s cache = All (All (λ (e : Entry). (e.number ≡ 0 → ⊥) → NoneBreaks s e.number e.key)) cache

@@ -1,48 +1,47 @@
 // The cache of a search: the positions from which it has tried all lists of so many rows and found none that breaks the rule, each
-// with the number of those lists. For the search alone: a caller has to see that the pair is one of 128.
-ghost use Rattle.std.specs.Prelude.{◌≡◌, ◌<◌, ◌↔◌, IfSome, IsTrue, Contains};
-ghost use Rattle.searcher.specs.Caching.{StoredOrNot};
+// with the number of those lists. For the search alone: that its entries are sound is a clause of the search.
+ghost use Rattle.std.specs.Prelude.{◌<◌, IfSome};
+ghost use Rattle.searcher.specs.Caching.{Stands, StoredOrNot};
 
 use crate::{Position, Status};
 use rules::State;
 
-// The number of the lists of so many rows from a position on, none of which breaks the rule. Where it is 0 the entry is empty; no
-// option, as a cache of zeros is cleared at once.
+// Which lists an entry is for: all of so many rows from a position on.
+#[derive(Clone, Copy, PartialEq, Eq)]
+pub struct Key {
+    pub left: u8,
+    pub position: Position,
+}
+
+// The number of those lists, none of which breaks the rule. A number of lists is never 0, so 0 marks an empty entry; an option would
+// say so in a second word.
 #[derive(Clone, Copy)]
 pub struct Entry {
     pub number: u32,
-    pub left: u8,
-    pub position: Position,
+    pub key: Key,
 }
 
 impl Entry {
     pub const EMPTY: Entry = Entry {
         number: 0,
-        left: 0,
-        position: Position {
-            state: State {
-                state: 0,
-                variables: [0; 16],
-                balances: [0; 8],
-                own: 0,
-            },
-            status: Status {
-                broken: false,
-                seen: false,
+        key: Key {
+            left: 0,
+            position: Position {
+                state: State::ZERO,
+                status: Status {
+                    broken: false,
+                    seen: false,
+                },
             },
         },
     };
-
-    fn is_for(&self, left: u8, position: &Position) -> bool
-        ensures { IsTrue result ↔ ((self.now.left ≡ left) × (self.now.position ≡ position.now)) }
-    {
-        self.left == left && self.position == *position
-    }
 }
 
-const PAIRS: usize = 128;
+// Two entries to which a hash leads: what is kept of fewer lists makes room. The cache is so many pairs, fixed memory, as the product
+// uses no heap.
+pub type Pair = [Entry; 2];
 
-pub const ENTRIES: usize = 2 * PAIRS;
+pub const PAIRS: usize = 128;
 
 fn folded(a: u32, b: u32) -> u32 {
     a ^ b.rotate_left(16)
@@ -53,16 +52,16 @@ fn mixed(h: u64, a: u32, b: u32, c: u32, d: u32) -> u64 {
     h.rotate_left(11) ^ four
 }
 
-// The pair of entries for the lists of so many rows from a position on. Any pair would do, so the contract says no more: the hash
-// only spreads positions over the pairs.
-fn pair_of(left: u8, position: &Position) -> usize
+// The pair of a key. Any would do, so the contract says no more: the hash only spreads keys over the pairs. It is written out, as a loop
+// would need an array of the 28 words to be made first.
+fn pair_of(key: &Key) -> usize
     ensures { result < 128 }
 {
-    let s = &position.state;
-    let status = 2 * u32::from(position.status.broken) + u32::from(position.status.seen);
+    let s = &key.position.state;
+    let status = 2 * u32::from(key.position.status.broken) + u32::from(key.position.status.seen);
     let v = &s.variables;
     let b = &s.balances;
-    let mut h = mixed(0, u32::from(left), status, s.state, s.own);
+    let mut h = mixed(0, u32::from(key.left), status, s.state, s.own);
     h = mixed(h, v[0], v[1], v[2], v[3]);
     h = mixed(h, v[4], v[5], v[6], v[7]);
     h = mixed(h, v[8], v[9], v[10], v[11]);
@@ -86,43 +85,33 @@ pub fn is_kept(count: usize, left: u8) -> bool {
     }
 }
 
-// The pair for the lists of so many rows, out of `count`, from a position on, if they are kept.
-pub fn pair_for(count: usize, left: u8, position: &Position) -> Option<usize>
+// The pair for a key's lists, out of `count` rows, if they are kept.
+pub fn pair_for(count: usize, key: &Key) -> Option<usize>
     ensures { IfSome result (λ pair. pair < 128) }
 {
-    if is_kept(count, left) {
-        Some(pair_of(left, position))
-    } else {
-        None
-    }
+    is_kept(count, key.left).then(|| pair_of(key))
 }
 
-// The number in a pair's entry for those lists, if the cache has it.
-pub fn find(cache: &[Entry], pair: usize, left: u8, position: &Position) -> Option<u32>
-    requires { pair < 128 }
-    ensures found { IfSome result (λ n. Contains cache.now (record { number = n; left = left; position = position.now })) }
+// The number in a pair's entry for a key, if the cache has it.
+pub fn find(cache: &[Pair], pair: usize, key: &Key) -> Option<u32>
+    ensures found { IfSome result (λ n. Stands cache.now (record { number = n; key = key.now })) }
     ensures some { IfSome result (λ n. 0 < n) }
 {
-    for entry in cache.get(2 * pair..2 * pair + 2)? {
-        if entry.number != 0 && entry.is_for(left, position) {
-            return Some(entry.number);
-        }
-    }
-    None
+    cache
+        .get(pair)?
+        .iter()
+        .find(|entry| entry.number != 0 && entry.key == *key)
+        .map(|entry| entry.number)
 }
 
-// Writes an entry into a pair, over the one for fewer lists; nothing where the cache has no such pair.
-pub fn store(cache: &mut [Entry], pair: usize, entry: Entry)
-    requires { pair < 128 }
+// Writes an entry into a pair, over the one for fewer lists; nothing where the cache has no such pair. Tried with `get_mut`, and the
+// proof did not close: its contract does not say what the slice ends as.
+pub fn store(cache: &mut [Pair], pair: usize, entry: Entry)
     ensures { StoredOrNot cache.old cache.new entry }
 {
-    let first = 2 * pair;
-    if cache.len() < first + 2 {
-        return;
-    }
-    if cache[first + 1].number < cache[first].number {
-        cache[first + 1] = entry;
-    } else {
-        cache[first] = entry;
+    if pair < cache.len() {
+        let [first, second] = &cache[pair];
+        let fewer = usize::from(second.number < first.number);
+        cache[pair][fewer] = entry;
     }
 }

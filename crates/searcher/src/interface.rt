@@ -7,7 +7,7 @@ use crate::verdicts::verdict;
 use rules::{Judged, Verdict};
 
 // The refusal's number (0: judged), its place, the verdict (1 broken, 2 held, 3 spent, 0 on refusal), the lists tried, the length
-// of the list.
+// of the list. Functions, and no `From` in `rules`: how the interface lays them out is said here.
 #[tactic(auto, unfolding(rules::specs::Answers::verdict_numbers))]
 fn verdict_words(v: Verdict) -> [u32; 5]
     ensures { result ≡ verdict_numbers v }

@@ -1,21 +1,15 @@
-// The call rows of a file, read once. For our own crates only: a caller has to see by which layout.
+// The call rows of a file, read once.
 ghost use Rattle.std.specs.Prelude.{◌≡◌, take};
 ghost use Rattle.access.specs.Trees.{TreeRead};
-ghost use Rattle.access.specs.Places.{Laid};
 
-use access::Layout;
-use access::entries::row;
-use machine::outcomes::no_call;
+use access::parsed::Parsed;
+use machine::state::no_call;
 use rules::Call;
 
-// The rows, which are 16 at most, and then calls with zeros.
-pub fn rows(file: &[u8], l: Layout) -> [Call; 16]
-    requires { Laid file.now l }
-    ensures { (a : TreeRead file.now) → take l.rows.count result ≡ a.tree.rows }
+// The rows, which are 16 at most, and then calls with zeros. An array of 16, as the product uses no heap.
+pub fn rows(parsed: &Parsed) -> [Call; 16]
+    ensures { (a : TreeRead parsed.now.file.now) → take parsed.now.layout.rows.count result ≡ a.tree.rows }
 {
-    let mut rows = [no_call(); 16];
-    for i in 0..l.rows.count {
-        rows[i] = row(file, l, i);
-    }
-    rows
+    let n = parsed.layout.rows.count;
+    std::array::from_fn(|i| if i < n { parsed.row(i) } else { no_call() })
 }

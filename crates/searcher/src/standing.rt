@@ -1,5 +1,5 @@
 // How a rule stands, call by call. For our own crates only: a caller has to see which rule is judged.
-ghost use Rattle.std.specs.Prelude.{◌≡◌, ◌||◌, List, ◌∷◌, ℕ, eqb};
+ghost use Rattle.std.specs.Prelude.{◌≡◌, ◌||◌, List, ◌∷◌, ℕ, eqb, true, false};
 ghost use Rattle.rules.specs.declared.State.{State};
 ghost use Rattle.rules.specs.Syntax.{Expr, Rule, always, not_after, only_after};
 ghost use Rattle.rules.specs.Judging.{Event, violated, breaks_by};
@@ -22,10 +22,7 @@ fn is_violated(file: &[u8], at: usize, state: &State) -> bool
         arguments: &[0; 4],
         context: [0, 0, state.own, state.state],
     };
-    match evaluate(&file[at..], &view) {
-        Some(x) => x == 0,
-        None => true,
-    }
+    evaluate(&file[at..], &view).is_none_or(|x| x == 0)
 }
 
 // How the rule stands before any call.
@@ -51,8 +48,8 @@ pub fn after(file: &[u8], rule: RuleAt, status: Status, name: u8, state: &State)
 {
     match rule {
         RuleAt::Always(at) => after_always(file, at, status, state),
-        RuleAt::NotAfter { p, q } => after_not_after(p, q, status, name),
-        RuleAt::OnlyAfter { p, q } => after_only_after(p, q, status, name),
+        RuleAt::NotAfter { p, q } => after_named(p, q, true, status, name),
+        RuleAt::OnlyAfter { p, q } => after_named(p, q, false, status, name),
     }
 }
 
@@ -64,44 +61,33 @@ fn after_always(file: &[u8], at: usize, status: Status, state: &State) -> Status
     if is_violated(file, at, state) {
         return Status {
             broken: true,
-            seen: status.seen,
+            ..status
         };
     }
     status
 }
 
-fn after_not_after(p: u8, q: u8, status: Status, name: u8) -> Status
-    ensures { (s : State) (es : List Event) →
+// A call named p breaks the rule where a completed q was seen before, or where none was. It is judged as p before it counts as q.
+fn after_named(p: u8, q: u8, breaking: bool, status: Status, name: u8) -> Status
+    ensures not_after { breaking ≡ true → (s : State) (es : List Event) →
         breaks_after (not_after p q) result es ≡ breaks_after (not_after p q) status (record { name = name; state = s } ∷ es) }
-{
-    if name == p && status.seen {
-        return Status {
-            broken: true,
-            seen: true,
-        };
-    }
-    counted(q, status, name)
-}
-
-fn after_only_after(p: u8, q: u8, status: Status, name: u8) -> Status
-    ensures { (s : State) (es : List Event) →
+    ensures only_after { breaking ≡ false → (s : State) (es : List Event) →
         breaks_after (only_after p q) result es ≡ breaks_after (only_after p q) status (record { name = name; state = s } ∷ es) }
 {
-    if name == p && !status.seen {
+    if name == p && status.seen == breaking {
         return Status {
             broken: true,
-            seen: false,
+            ..status
         };
     }
     counted(q, status, name)
 }
 
-// A call is judged as p before it counts as q.
 fn counted(q: u8, status: Status, name: u8) -> Status
     ensures { result ≡ record { broken = status.broken; seen = status.seen || eqb name q } }
 {
     Status {
-        broken: status.broken,
         seen: status.seen || name == q,
+        ..status
     }
 }

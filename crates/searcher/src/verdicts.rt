@@ -1,30 +1,25 @@
 // The verdict on a rule. Any bytes, rule number and words get an answer.
-ghost use Rattle.std.specs.Prelude.{◌≡◌, ◌<◌};
+ghost use Rattle.std.specs.Prelude.{◌≡◌, ◌<◌, MatchResult};
 ghost use Rattle.std.proofs.Math.Option.{some};
 ghost use Rattle.std.proofs.Math.ListN.{get_elem?};
 ghost use Rattle.rules.specs.Syntax.{Rule};
 ghost use Rattle.rules.specs.Accepting.{lent};
 ghost use Rattle.rules.specs.Calling.{start_tree};
-ghost use Rattle.rules.specs.Judging.{judged_of, ruling, verdict as verdict_of};
+ghost use Rattle.rules.specs.Judging.{judged_of, ruling, refused_verdict, verdict as verdict_of};
 ghost use Rattle.machine.specs.Calls.{Fits};
 ghost use Rattle.access.specs.Trees.{AcceptedFile};
-ghost use Rattle.access.specs.Places.{Laid};
-ghost use Rattle.expansion.specs.Writing.{HasSteps};
-ghost use Rattle.searcher.specs.Searching.{Written};
+ghost use Rattle.walker.specs.Tables.{Expanded};
 
 use crate::Position;
 use crate::plan::Search;
 use crate::rows::rows;
 use crate::search::{is_completed, unshown};
 use crate::standing::at_first;
-use access::Layout;
-use access::entries::rule;
-use access::fields::fields;
-use access::places::layout;
+use expansion::lent::check_room;
 use expansion::writing::write_expansion;
-use machine::outcomes::refusal;
-use reader::read;
-use rules::{Judged, State, Verdict};
+use reader::accept;
+use reader::accepted::Accepted;
+use rules::{Judged, Refusal, State, Verdict};
 use runner::Prepared;
 use runner::accepted::start_accepted;
 use walker::index::{index_entries, index_nodes};
@@ -33,49 +28,43 @@ use walker::steps::Steps;
 pub fn verdict(file: &[u8], rule: u32, words: &mut [u32]) -> Judged
     ensures { lent result words.new ≡ verdict_of file.now rule words.old }
 {
-    match read(file) {
-        Ok(n) => verdict_accepted(file, n as usize, rule as usize, words),
+    match judge(file, rule as usize, words) {
+        Ok(judged) => judged,
         Err(r) => unshown(Verdict::Refused(r)),
     }
 }
 
-// Refusals 10, 11 and 27, in this order, before anything is written.
-fn verdict_accepted(file: &[u8], steps: usize, i: usize, words: &mut [u32]) -> Judged
-    requires { HasSteps file.now steps }
-    ensures { lent result words.new ≡ verdict_of file.now i words.old }
+// What refuses the file, and refusals 10, 11 and 27, in this order and before anything is written; or the verdict.
+fn judge(file: &[u8], i: usize, words: &mut [u32]) -> Result<Judged, Refusal>
+    ensures { MatchResult result (λ j. lent j words.new ≡ verdict_of file.now i words.old)
+        (λ r. refused_verdict words.new r ≡ verdict_of file.now i words.old) }
 {
-    let l = layout(file);
-    if l.rules.count <= i {
-        return unshown(Verdict::Refused(refusal(10)));
+    let accepted = accept(file)?;
+    if accepted.parsed.layout.rules.count <= i {
+        return Err(Refusal::placeless(10));
     }
-    if words.len() < 5 * steps {
-        return unshown(Verdict::Refused(refusal(11)));
-    }
-    let started = start_accepted(file);
+    check_room(&accepted, words)?;
+    let started = start_accepted(&accepted);
     if !is_completed(started.answer) {
-        return unshown(Verdict::Refused(refusal(27)));
+        return Err(Refusal::placeless(27));
     }
-    write_expansion(file, words);
-    judge_written(file, words, steps, l, i, started.state)
+    write_expansion(&accepted, words);
+    Ok(judge_written(&accepted, words, i, started.state))
 }
 
-// The i-th rule, once the steps were written, from the state that the start led to.
-fn judge_written(
-    file: &[u8],
-    words: &[u32],
-    steps: usize,
-    l: Layout,
-    i: usize,
-    fresh: State,
-) -> Judged
-    requires { Written file.now words.now steps × Laid file.now l × (i < l.rules.count)
-        × ((a : AcceptedFile file.now) → Fits a.tree.fields fresh) }
-    ensures { (a : AcceptedFile file.now) (x : Rule) →
+// The i-th rule, once the steps were written, from the state that the start led to. The nodes, entries, steps and prepared file are
+// made here. As in `runner::expanded`: what refers to its own tables can't be handed out.
+fn judge_written(accepted: &Accepted, words: &[u32], i: usize, fresh: State) -> Judged
+    requires { Expanded accepted.now.parsed.file.now words.now × (i < accepted.now.parsed.layout.rules.count)
+        × ((a : AcceptedFile accepted.now.parsed.file.now) → Fits a.tree.fields fresh) }
+    ensures { (a : AcceptedFile accepted.now.parsed.file.now) (x : Rule) →
         get_elem? a.tree.rules i ≡ some x → fresh ≡ (start_tree a.tree).state → result ≡ judged_of (ruling a.tree x) }
 {
-    let nodes = index_nodes(words, steps);
-    let entries = index_entries(words, steps);
-    let fields = fields(file);
+    let parsed = &accepted.parsed;
+    let file = parsed.file;
+    let fields = parsed.fields();
+    let nodes = index_nodes(words, accepted.steps);
+    let entries = index_entries(words, accepted.steps);
     let steps = Steps {
         file,
         words,
@@ -86,12 +75,12 @@ fn judge_written(
         steps,
         entries: &entries,
     };
-    let rule = rule(file, l, i);
-    let all = rows(file, l);
+    let rule = parsed.rule(i);
+    let all = rows(parsed);
     let search = Search {
         prepared: &prepared,
         rule,
-        rows: &all[..l.rows.count],
+        rows: &all[..parsed.layout.rows.count],
         bound: fields.bound,
     };
     let status = at_first(file, rule, &fresh);

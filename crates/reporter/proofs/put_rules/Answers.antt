@@ -8,8 +8,9 @@ use Rattle.rules.specs.declared.Outcome.{Outcome}
 use Rattle.rules.specs.Basics.{each}
 use Rattle.rules.specs.Judging.{is_completed}
 use Rattle.rules.specs.Reporting.{rule_line, rule_lines}
+use Rattle.access.proofs.Kept.{laid-of}
 use Rattle.access.proofs.Using.{counts, tree_of}
-use Rattle.reporter.proofs.Texts.{each_more, line, few-laid}
+use Rattle.reporter.proofs.Texts.{each_more, line, few-rules}
 use Rattle.reporter.proofs.put_rules.Goals as goal
 
 pub returns-then-not-is_completed : goal.returns-then-not-is_completed
@@ -18,27 +19,24 @@ returns-then-not-is_completed c = λ a.
     rw (ap (λ (o : Outcome). is_completed o.answer) (sym (c.start_accepted.ensures a)) ∙ sym c.is_completed.ensures ∙ c.if-not-is_completed.true)
     c.put.ensures
 
-pub layout-count-requires : goal.layout-count-requires
-layout-count-requires c = tree_of c.requires.0
-
 pub loop-i-init : goal.loop-i-init
 unfolding each
 loop-i-init c = (sym (append-nil c.args.page.now), omega arith)
 
 pub overflow_cast-i : goal.overflow_cast-i
-overflow_cast-i c = omega (arith, few-laid c.requires.0 c.layout-count.ensures)
+overflow_cast-i c = omega (arith, few-rules c.args.accepted.now.parsed.laid)
 
 pub overflow_cast-i-in-loop-i : goal.overflow_cast-i-in-loop-i
-overflow_cast-i-in-loop-i c = omega (arith, few-laid c.requires.0 c.layout-count.ensures)
+overflow_cast-i-in-loop-i c = omega (arith, few-rules c.args.accepted.now.parsed.laid)
 
 pub put_rule-requires : goal.put_rule-requires
-put_rule-requires c = omega (arith, few-laid c.requires.0 c.layout-count.ensures, c.loop-i.invariant.1, c.requires.1)
+put_rule-requires c = omega (arith, few-rules c.args.accepted.now.parsed.laid, c.loop-i.invariant.1, c.requires)
 
 -- the line that was put is that of the i-th rule
 pub loop-i-preserved : goal.loop-i-preserved
 loop-i-preserved c =
     let l = c.loop-i in
-    let f = line c.args.file.now in
+    let f = line c.args.accepted.now.parsed.file.now in
     let before = c.args.page.now in
     let z : 0 + l.i ≡ l.i = omega arith in
     let y : suc l.i ≡ l.i + 1 = omega arith in
@@ -51,6 +49,6 @@ unfolding rule_lines
 returns c = λ a.
     let l = c.loop-i in
     let u = tree_of a in
-    let n : l.i ≡ length a.tree.rules = omega (arith, (counts (record { read = u; out = c.layout-count.ensures u }) u).2) in
+    let n : l.i ≡ length a.tree.rules = omega (arith, (counts (laid-of c.args.accepted.now.parsed.laid) u).2) in
     rw (ap (λ (o : Outcome). is_completed o.answer) (sym (c.start_accepted.ensures a)) ∙ sym c.is_completed.ensures ∙ c.if-not-is_completed.false)
-    (l.invariant.0 ∙ ap (λ (k : ℕ). c.args.page.now ++ each (line c.args.file.now) 0 k) n)
+    (l.invariant.0 ∙ ap (λ (k : ℕ). c.args.page.now ++ each (line c.args.accepted.now.parsed.file.now) 0 k) n)

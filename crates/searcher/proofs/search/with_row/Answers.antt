@@ -5,7 +5,7 @@ use Rattle.searcher.proofs.search.with_row.Goals as goal
 pub returns-in-Broken : goal.returns-in-Broken
 returns-in-Broken c = λ n v e.
     let a = c.args in
-    rw c.from.ensures (row-shown a.at a.row n a.f v e c.in-Broken.is)
+    rw c.from.ensures (row-shown a.at a.row n a.judged v e c.in-Broken.is)
 
 pub returns-in_default : goal.returns-in_default
-returns-in_default c = λ n v e. let a = c.args in row-unshown a.at a.row n a.f v e c.in_default.not-Broken
+returns-in_default c = λ n v e. let a = c.args in row-unshown a.at a.row n a.judged v e c.in_default.not-Broken

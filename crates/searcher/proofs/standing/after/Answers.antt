@@ -1,5 +1,5 @@
 -- By the rule's type.
-use mathlib.Core.Path.{◌≡◌}
+use mathlib.Core.Path.{◌≡◌, refl}
 use mathlib.Core.List.{◌∷◌}
 use Rattle.rules.specs.Syntax.{Expr}
 use Rattle.searcher.specs.Standing.{ExpressionAt, breaks_after}
@@ -24,13 +24,13 @@ returns-in-NotAfter c = λ rule h es.
     let a = c.args in
     let s = a.state.now in
     type-two a.file.now a.rule
-    (λ rule. breaks_after rule c.after_not_after.result es ≡ breaks_after rule a.status (record { name = a.name; state = s } ∷ es))
-    _ _ rule h c.in-NotAfter.is (c.after_not_after.ensures s es)
+    (λ rule. breaks_after rule c.after_named.result es ≡ breaks_after rule a.status (record { name = a.name; state = s } ∷ es))
+    _ _ rule h c.in-NotAfter.is (c.after_named.ensures.not_after refl s es)
 
 pub returns-in-OnlyAfter : goal.returns-in-OnlyAfter
 returns-in-OnlyAfter c = λ rule h es.
     let a = c.args in
     let s = a.state.now in
     type-three a.file.now a.rule
-    (λ rule. breaks_after rule c.after_only_after.result es ≡ breaks_after rule a.status (record { name = a.name; state = s } ∷ es))
-    _ _ rule h c.in-OnlyAfter.is (c.after_only_after.ensures s es)
+    (λ rule. breaks_after rule c.after_named-in-OnlyAfter.result es ≡ breaks_after rule a.status (record { name = a.name; state = s } ∷ es))
+    _ _ rule h c.in-OnlyAfter.is (c.after_named-in-OnlyAfter.ensures.only_after refl s es)

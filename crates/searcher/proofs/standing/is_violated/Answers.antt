@@ -1,6 +1,6 @@
 -- The expression's value on the state, with zeros for locals and arguments, which no rule reads.
-use Rattle.std.specs.Prelude.{Some, None}
-use mathlib.Core.Path.{sym, ◌∙◌}
+use Rattle.std.proofs.Common.{rules}
+use mathlib.Core.Path.{◌≡◌, ◌∙◌}
 use Rattle.rules.specs.Judging.{not_true}
 use Rattle.searcher.proofs.Events.{here, violated-by}
 use Rattle.searcher.proofs.standing.is_violated.Goals as goal
@@ -10,16 +10,10 @@ evaluate-requires c =
     let a = c.args in
     (here a.file.now a.at c.requires.0 c.requires.1).0
 
-pub returns-in-Some : goal.returns-in-Some
+pub returns : goal.returns
 unfolding not_true
-returns-in-Some c = λ e h.
+returns c = λ e h.
     let a = c.args in
     let s = a.state.now in
-    violated-by a.file.now a.at s (Some c.in-Some.x) (λ g. sym c.in-Some.is ∙ c.evaluate.ensures g) e h
-
-pub returns-in-None : goal.returns-in-None
-unfolding not_true
-returns-in-None c = λ e h.
-    let a = c.args in
-    let s = a.state.now in
-    violated-by a.file.now a.at s None (λ g. sym c.in-None.is ∙ c.evaluate.ensures g) e h
+    let v : c.is_none_or.result ≡ not_true c.evaluate.result = search rules in
+    v ∙ violated-by a.file.now a.at s c.evaluate.result (λ g. c.evaluate.ensures g) e h

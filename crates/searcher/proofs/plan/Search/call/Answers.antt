@@ -1,6 +1,5 @@
 -- The call is refused or completed, and leads to a record that fits.
 use mathlib.Core.Path.{◌≡◌, sym, ap, ◌∙◌}
-use native.Mathlib.Omega.{arith}
 use Prim.Native.Nat.{ℕ, ◌<◌}
 use mathlib.Core.List.{List}
 use lib.ListN.{length, get_or}
