@@ -49,7 +49,7 @@ MADE_UP: list[tuple[str, str, str]] = [
     (PROMISES, "`Runs.ran`", "Runs.ran"),
     (PROMISES, "`Nothing`", "Nothing"),
     (PROMISES, "`crates/nothing`", "crates/nothing"),
-    (PROMISES, "`access::fields::fields`", "access::fields::fields"),
+    (PROMISES, "`access::entries::rule`", "access::entries::rule"),
     (PROMISES, "Where the proofs stand: `TenCases` in `crates/forms`.\n\n", "TenCases"),
     (DECISIONS, "`Nothing.antt`", "Nothing.antt"),
     (DECISIONS, "`Flows.nothing`", "Flows.nothing"),
