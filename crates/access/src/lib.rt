@@ -1,5 +1,5 @@
-// What the layers above need of a file whose tree has been read, so that none of them reads it again. This serves our own crates
-// only: what the functions answer of a `Parsed` is an equation over that tree.
+// What the layers above need of a file whose tree has been read, so that none of them reads it again. What the functions
+// answer of a `Parsed` is an equation over that tree. This serves our own crates only.
 #![tactic(auto)]
 
 ghost use Rattle.access.specs.Answers.{Refuses};

@@ -53,7 +53,8 @@ pub fn layout(file: &[u8]) -> Layout
 }
 
 // Where the i-th of the records in a row from `at` on begins.
-// Loops over records keep the offset themselves: over an iterator of records they were tried, and their proofs were longer.
+// Loops over records keep the offset themselves. An iterator of records would keep the same offset in a type for these loops alone; it
+// was tried, and what was left to prove of it and of the loops was more than is proved of the loops.
 #[tactic(auto, using(crate::proofs::Groups::past_more))]
 pub fn nth(file: &[u8], at: usize, i: usize) -> usize
     requires { InRow file.now at i }

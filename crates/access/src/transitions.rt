@@ -18,8 +18,7 @@ impl Parsed<'_> {
         ensures { (a : TreeRead self.now.file.now) → result ≡ found_of (known a.tree name) (transition_of a.tree name state) }
     {
         let file = self.file;
-        // Where the next record begins is read from the one before. An iterator of records was tried: its proofs were longer than
-        // these loops'.
+        // Where the next record begins is read from the one before. An iterator of records would keep the same offset (`nth`).
         let mut at = self.layout.transitions.at;
         // What is answered where no transition of the name leaves the state.
         let mut answer = Ok(None);

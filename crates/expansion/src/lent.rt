@@ -9,7 +9,7 @@ use crate::comparing::is_expansion;
 use reader::accepted::Accepted;
 use rules::Refusal;
 
-// Refusal 11: room for the expansion, five words a step. Who writes there asks for the room by a clause: it is of a file and of words.
+// Refusal 11: room for the expansion, five words a step.
 pub fn check_room(accepted: &Accepted, words: &[u32]) -> Result<(), Refusal>
     ensures is { (a : AcceptedFile accepted.now.parsed.file.now) → result ≡ refused_by (first_of ((too_few a.tree words.now, 11) ∷ [])) }
     ensures room { OnOk result (5 * accepted.now.steps ≤ length words.now) }

@@ -1,5 +1,5 @@
 // The expansion of an accepted file, written into words.
-// For our own crates only: a caller has to see that the words have room.
+// For our own crates only: a caller has to see that the words have room, which is a clause: it is of a file and of words together.
 ghost use Rattle.std.specs.Prelude.{◌≡◌, ◌*◌, ◌≤◌, length};
 ghost use Rattle.rules.specs.Accepting.{written};
 ghost use Rattle.access.specs.Trees.{AcceptedFile};
@@ -48,8 +48,7 @@ pub fn write_expansion(accepted: &Accepted, words: &mut [u32])
 {
     let Parsed { file, layout, .. } = accepted.parsed;
     let mut next = write_actions(accepted, words);
-    // Where the next record begins is read from the one before. An iterator of records was tried: its proofs were longer than this
-    // loop's.
+    // Where the next record begins is read from the one before. An iterator of records would keep the same offset.
     let mut at = layout.transitions.at;
     for _ in 0..layout.transitions.count {
         next = expand_transition(&file[at..], at, words, next);

@@ -55,6 +55,7 @@ fn check_rule_head(b: Part, ts: &[u8]) -> Result<Checked, Fault>
     Ok(Checked::at(b.at + 4))
 }
 
+// A rule, whose type is tested by its number, as in `check_rule_head`.
 pub fn check_rule(b: Part, variables: usize, ts: &[u8]) -> Result<Checked, Fault>
     ensures { result ≡ outcome no_steps (of_part (rule_body variables (names_in 64 ts.now)) b.entry) }
 {

@@ -12,7 +12,7 @@ pub fn byte(b: &[u8], i: usize) -> usize
     usize::from(b.get(i).copied().unwrap_or(0))
 }
 
-// Two sizes, as the numbers of `records::bytes` are.
+// Not one function of a size with `word`: it would take the reader as a closure, and be no shorter than the two.
 pub fn half(b: &[u8], i: usize) -> usize
     requires { i < 256 }
     ensures { result ≡ value_at 2 i b.now }

@@ -12,8 +12,8 @@ use crate::part::Part;
 use crate::sets::{check_loop_set, check_set};
 
 // `levels` and `variables` stay apart: the levels are fewer at each record and the variables are not, so a struct of the two would be
-// made anew at each. Its two lines are `check_expression`'s too: one function would take the check of a body as a closure, which two
-// cycles of calls would go through.
+// made anew at each. This function's two lines are `check_expression`'s too: one function for both would take the check of a body as a
+// closure, and be in both cycles of calls.
 #[cycle(statement)]
 pub fn check_statement(p: Part, levels: usize, variables: usize) -> Result<Checked, Fault>
     ensures { result ≡ outcome step_count (of_part (statement variables levels) p.entry) }

@@ -50,7 +50,7 @@ fn put_rules(accepted: &Accepted, page: &mut Page)
     }
 }
 
-// The verdict on a rule, with words enough for every accepted file.
+// The verdict on a rule, with words enough for every accepted file, in an array, as the product uses no heap.
 fn judged(file: &[u8], rule: u32) -> Judged
     ensures { result ≡ (verdict_of file.now rule (replicate 5120 0)).answer }
 {

@@ -46,7 +46,8 @@ fn hand_over(o: &Outcome, state: &mut [u32; 26], answer: &mut [u32; 5])
 }
 
 // Of the four functions below the answer is the refusal's number (0: completed), its place, whether there is a returned value
-// (1 or 0), that value or 0, and the units, and `state` gets the state record that is handed back.
+// (1 or 0), that value or 0, and the units, and `state` gets the state record that is handed back. Parameters are single, as C passes
+// them so.
 pub fn agreement_start(file: &[u8], state: &mut [u32; 26], answer: &mut [u32; 5])
     ensures { StartHands file.now state.new answer.new }
 {

@@ -1,5 +1,5 @@
 // State records and answers as the exported interface has them, in words. Functions, and no `From` in `rules`: how the
-// interface lays them out is said here.
+// interface lays them out is said here. Each word is written out, so that the order can be read.
 ghost use Rattle.std.specs.Prelude.{◌≡◌};
 ghost use Rattle.rules.specs.Answers.{read_numbers, counted_numbers, answer_numbers, state_numbers, state_from};
 

@@ -19,7 +19,8 @@ use machine::state::{entering, starting};
 use rules::{Answer, Call, Machine, Outcome, Refusal, Setting, State};
 use walker::steps::Steps;
 
-// The node that a run has reached becomes the state; the fallback's end, which is S, keeps the state of before.
+// The node that a run has reached becomes the state; the fallback's end, which is the number of states, keeps the
+// state of before.
 fn settle(states: u32, before: u32, node: u32) -> u32
     ensures { result ≡ (if eqb node states then before else node) }
 {

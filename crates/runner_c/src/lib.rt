@@ -1,5 +1,6 @@
 // What C, Rust and Python call of the runner: each function hands on to the one of that name in `runner::interface`, whose clauses
 // it states again.
+// An archive has only what one crate exports, and no crate stands on one that makes an archive: so the functions stand twice.
 #![tactic(auto)]
 
 ghost use Rattle.std.specs.Prelude.{◌≡◌};

@@ -14,7 +14,7 @@ pub struct Key {
 }
 
 // The number of those lists, none of which breaks the rule. A number of lists is never 0, so 0 marks an empty entry; an option would
-// say so in a second word.
+// say so once more.
 #[derive(Clone, Copy)]
 pub struct Entry {
     pub number: u32,
@@ -74,7 +74,7 @@ fn pair_of(key: &Key) -> usize
 
 // Whether the lists of so many rows, out of `count`, are kept: where there are 8 or more of one row, or 16 or more of several.
 // Looking up fewer costs too much of the time of trying them, where no position is met again. Any answer would do, so there is no
-// contract.
+// contract. `left` is a length and no code.
 pub fn is_kept(count: usize, left: u8) -> bool {
     match left {
         0 => false,

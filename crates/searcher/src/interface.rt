@@ -20,7 +20,7 @@ fn verdict_words(v: Verdict) -> [u32; 5]
     }
 }
 
-// The same, with the rows and then zeros.
+// The same, with the rows and then zeros; each word is written out, so that the order can be read.
 fn judged_words(j: Judged) -> [u32; 13]
     ensures { result ≡ judged_numbers j }
 {

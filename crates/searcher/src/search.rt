@@ -172,7 +172,7 @@ impl Search<'_> {
     }
 
     // Tries the lists by length, up to the depth, from the position that the start led to. Its loop is `extend_each`'s, over lengths
-    // in place of rows: three lines about another call.
+    // in place of rows, and with a key made at each.
     fn by_length(&self, fresh: &Position, depth: u8, cache: &mut [Pair]) -> Result<u32, Judged>
         requires { PlannedBy self.now × Fits self.now.prepared.now.steps.fields fresh.now.state × (depth ≤ 8) × Sound self.now cache.old }
         ensures { (g : PlannedBy self.now) →

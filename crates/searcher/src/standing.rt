@@ -67,7 +67,8 @@ fn after_always(file: &[u8], at: usize, status: Status, state: &State) -> Status
     status
 }
 
-// A call named p breaks the rule where a completed q was seen before, or where none was. It is judged as p before it counts as q.
+// A call named p breaks the rule where a completed q was seen before (`breaking`), or where none was (not `breaking`): the two rules
+// differ in that alone. It is judged as p before it counts as q.
 fn after_named(p: u8, q: u8, breaking: bool, status: Status, name: u8) -> Status
     ensures not_after { breaking ≡ true → (s : State) (es : List Event) →
         breaks_after (not_after p q) result es ≡ breaks_after (not_after p q) status (record { name = name; state = s } ∷ es) }

@@ -1,5 +1,6 @@
 // What C, Rust and Python call of the searcher: it hands on to the function of that name in `searcher::interface`, whose clause it
 // states again.
+// An archive has only what one crate exports, and no crate stands on one that makes an archive: so the functions stand twice.
 #![tactic(auto)]
 
 ghost use Rattle.rules.specs.Exported.{VerdictHands};

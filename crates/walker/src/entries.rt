@@ -3,7 +3,7 @@ ghost use Rattle.std.specs.Prelude.{◌≡◌, [], ◌∷◌, ◌++◌, ◌<◌,
 
 use std::marker::Model;
 
-// They come first in `places`: fixed memory, as the product uses no heap. Reporter's `Page` is no instance of one generic type with
+// The places come first in the array: fixed memory, as the product uses no heap. Reporter's `Page` is no instance of one generic type with
 // it: a page takes whole texts and promises zeros behind them.
 #[derive(Drop)]
 pub struct Entries {

@@ -8,8 +8,9 @@ use crate::entries::Entries;
 use crate::words::step_at;
 use expander::steps::StepKind;
 
-// For each node 1 + the place of the first step that leaves it, or 0 where none does: one word a node, and no option, which takes two,
-// of a `NonZeroU32` too. The last step goes first, so that the first of those that leave a node stays.
+// For each node 1 + the place of the first step that leaves it, or 0 where none does: one word a node, and no option, which takes a word
+// more with this compiler, of a `NonZeroU32` too. An array of as many nodes as an accepted file can have, as the product uses no heap.
+// The last step goes first, so that the first of those that leave a node stays.
 pub fn index_nodes(words: &[u32], steps: usize) -> [u32; 1091]
     requires { Tabled words.now steps }
     ensures { (file : List ℕ) (a : Expanded file words.now) → steps ≡ length (expansion a.tree) →
