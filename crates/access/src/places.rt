@@ -1,4 +1,4 @@
-// Where the parts of a file begin.
+// Where the parts of a file begin. For our own crates only: a caller has to see that the tree was read, or that records stand in a row.
 ghost use Rattle.std.specs.Prelude.{◌≡◌, ◌≤◌, length};
 ghost use Rattle.records.specs.Kinds.{number_of};
 ghost use Rattle.access.specs.Trees.{TreeRead};

@@ -1,4 +1,4 @@
-// The transitions of a file.
+// The transitions of a file. For our own crates only: a caller of `action_at` has to see that the bytes are there.
 ghost use Rattle.std.specs.Prelude.{◌≡◌, [], ◌+◌, ◌≤◌, length, take};
 ghost use Rattle.rules.specs.Basics.{any};
 ghost use Rattle.rules.specs.Accepting.{first_repeat};

@@ -1,4 +1,4 @@
-// The check of an expression record.
+// The check of an expression record. `check_ranged` serves our own crates only: a caller has to see that its test may be called.
 ghost use Rattle.std.specs.Prelude.{◌≡◌, ℕ, Bool, false, ◌&&◌, ltb, leb};
 ghost use Rattle.rules.specs.Reading.{expression_body, expression};
 ghost use Rattle.records.specs.Checking.{outcome, of_part, no_steps, ranged};

@@ -4,7 +4,7 @@ use Rattle.rules.specs.declared.Answer.{Answer}
 use Rattle.rules.specs.declared.Answer.TheVariants.{Refused}
 use Rattle.rules.specs.declared.Refusal.{Refusal}
 
--- "A refusal before the run has used no units": its answer, or the refusal that its tests met
+-- "units charged with 23 to 27 on a start or call, else 0": the answer of a call that ran, or the refusal that its tests met
 abbrev pub answered : Result Answer Refusal → Answer
 answered (Ok answer) = answer
 answered (Err refusal) = Refused refusal 0

@@ -1,5 +1,5 @@
 // Starting and calling on the expanded form, once the steps and their entries were found: a caller can do that once for many calls.
-// A caller of `call_fitting` has to see that the record fits.
+// `call_fitting` serves our own crates only: a caller has to see that the record fits.
 ghost use Rattle.std.specs.Prelude.{◌≡◌, eqb, if◌then◌else◌};
 ghost use Rattle.rules.specs.Expanding.{expansion};
 ghost use Rattle.rules.specs.Calling.{outcome};
