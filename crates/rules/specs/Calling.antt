@@ -100,12 +100,16 @@ call_tests f s k word_tests elsewhere =
     ∷ (elsewhere, 22)
     ∷ [])
 
+-- what a run goes by
+abbrev pub setting : Fields → (before : ℕ) → Call → Setting
+setting f before k = record { limit = f.limit; accounts = f.accounts; states = f.states; before = before; call = k }
+
 module _ (f : Fields) where
   unfoldable pub start_setting : Setting
-  start_setting = record { fields = f; before = f.start; call = no_call }
+  start_setting = setting f f.start no_call
 
   unfoldable pub call_setting : State → Call → Setting
-  call_setting s k = record { fields = f; before = s.state; call = k }
+  call_setting s k = setting f s.state k
 
   -- a start, given how the initial action runs
   unfoldable pub start_by : (Setting → Machine → End) → Outcome
