@@ -1,0 +1,7 @@
+pub mod Bytes
+pub mod Readings
+pub mod Keeping
+pub mod Levels
+pub mod Statements
+pub mod Agreements
+pub mod Accepted

@@ -1,0 +1,2 @@
+// No functions: proofs/ has laws of what every run does.
+#![tactic(auto)]
