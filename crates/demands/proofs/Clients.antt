@@ -40,7 +40,8 @@ module _ (g : State → Call → Outcome) (keeps : (s : State) (k : Call) → Sh
       ap₂ (λ (y : Seen) (ys : List Seen). y ∷ ys) (handed-seen x m) (calls_seen o.state x.state h m.state-is rest)
 
   -- and such records and answers there are
-  calls-met : (s : State) → Shaped s → (ks : List Call) → CallsSeen (λ k b. Handed (g (state_from b) k)) (state_numbers s) ks (map seen_of (calls_from g s ks))
+  calls-met : (s : State) → Shaped s → (ks : List Call)
+      → CallsSeen (λ k b. Handed (g (state_from b) k)) (state_numbers s) ks (map seen_of (calls_from g s ks))
   unfolding calls_from
   calls-met s h [] = done
   calls-met s h (k ∷ ks) =

@@ -4,7 +4,6 @@
 -- (expansion-begins).
 use mathlib.Core.Path.{◌≡◌, refl, sym, ap, ap₂, ◌∙◌, fun_ext}
 use Prim.Native.Nat.{ℕ, ◌-◌}
-use native.Mathlib.Omega.{arith}
 use mathlib.Core.Bool.{true}
 use mathlib.Core.List.{List}
 use mathlib.Core.Logic.{◌↔◌}
@@ -47,13 +46,13 @@ numbers-tell (broken n l) (broken m k) e =
     let same : length l ≡ length k = cc in
     let rows : padded 8 l ≡ padded 8 k = cc in
     ap₂ broken tried (padded-tells l k same rows)
-numbers-tell (broken n l) (held m) e = let z : ◌≡◌ {A = ℕ} 1 2 = cc in absurd (omega arith)
-numbers-tell (broken n l) (spent m) e = let z : ◌≡◌ {A = ℕ} 1 3 = cc in absurd (omega arith)
-numbers-tell (held n) (broken m k) e = let z : ◌≡◌ {A = ℕ} 2 1 = cc in absurd (omega arith)
+numbers-tell (broken n l) (held m) e = absurd cc
+numbers-tell (broken n l) (spent m) e = absurd cc
+numbers-tell (held n) (broken m k) e = absurd cc
 numbers-tell (held n) (held m) e = let tried : n ≡ m = cc in ap held tried
-numbers-tell (held n) (spent m) e = let z : ◌≡◌ {A = ℕ} 2 3 = cc in absurd (omega arith)
-numbers-tell (spent n) (broken m k) e = let z : ◌≡◌ {A = ℕ} 3 1 = cc in absurd (omega arith)
-numbers-tell (spent n) (held m) e = let z : ◌≡◌ {A = ℕ} 3 2 = cc in absurd (omega arith)
+numbers-tell (held n) (spent m) e = absurd cc
+numbers-tell (spent n) (broken m k) e = absurd cc
+numbers-tell (spent n) (held m) e = absurd cc
 numbers-tell (spent n) (spent m) e = let tried : n ≡ m = cc in ap spent tried
 
 judged-tells : (v w : Ruling) → judged_of v ≡ judged_of w → v ≡ w

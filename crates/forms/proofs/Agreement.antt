@@ -19,7 +19,7 @@ use Rattle.rules.specs.Expanding.{Step, expansion, table}
 use Rattle.rules.specs.Accepting.{refusal, good, file_of, on_file}
 use Rattle.rules.specs.declared.Setting.{Setting}
 use Rattle.rules.specs.Running.{Run, going, returned, stopped, after, statement, guarded}
-use Rattle.rules.specs.Calling.{End, ended, leads, ends_in, started, called, refused_call, opening_state, entered, no_call, call_tests, start_setting, call_setting, start_by, call_by}
+use Rattle.rules.specs.Calling.{End, ended, leads, ends_in, started, called, refused_call, opening_state, entered, no_call, call_tests, setting, start_setting, call_setting, start_by, call_by}
 use Rattle.rules.specs.Calling.{run_initial, run_by, start_tree, call_tree, start, call, follow, run_list}
 use Rattle.rules.specs.Stepping.{records_in, with, onward, admitted, walk, walk_from, walk_by, settled, start_steps, call_steps}
 use Rattle.rules.specs.Stepping.{begins_with, lent_tests, start_expanded, call_expanded, run_list_expanded}
@@ -45,48 +45,49 @@ module _ (file : List ℕ) (a : Agreement) (ok : Good file a) where
 
   module _ (before : ℕ) (k : Call) where
     abbrev c : Setting
-    c = record { fields = f; before = before; call = k }
+    c = setting f before k
 
     abbrev settle : End → End
     settle = settled c
 
     -- a walk that is at the node n ends in the state t
-    end : (n t : ℕ) → n ≤ S → (if eqb n S then before else n) ≡ t → (v : Machine) → settle (W c file T n v) ≡ ended t v
+    end : (n t : ℕ) → n ≤ S → (if eqb n S then before else n) ≡ t → (v : Machine) → settle (W c f.variables file T n v) ≡ ended t v
     unfolding settled walk_from walk
     end n t h e v = rw (le-leb n S h, e)
 
     -- and so does an action that leads to n
-    ends : (n t : ℕ) → n ≤ S → (if eqb n S then before else n) ≡ t → (r : Run (Unit {0})) → settle (on_from c file T n n r) ≡ ends_in t r
+    ends : (n t : ℕ) → n ≤ S → (if eqb n S then before else n) ≡ t → (r : Run (Unit {0})) → settle (on_from c f.variables file T n n r) ≡ ends_in t r
     unfolding settled ends_in leads
     ends n t h e (going u v) = end n t h e v
     ends n t h e (returned v) = end n t h e v
     ends n t h e (stopped i v) = refl
 
     -- an action that leads to a state ends in it
-    in-state : (n : ℕ) → n < S → (r : Run (Unit {0})) → settle (on_from c file T n n r) ≡ ends_in n r
+    in-state : (n : ℕ) → n < S → (r : Run (Unit {0})) → settle (on_from c f.variables file T n n r) ≡ ends_in n r
     in-state n h = ends n n (omega arith) (rw (ne_eqb n S (omega arith)))
 
     -- the initial action
-    start-run : (m : Machine) → settle (walk_from (records_in file f.variables) f T c (S + 2) m) ≡ run_initial a c m
+    start-run : (m : Machine) → settle (walk_from (records_in file f.variables) T c (S + 2) m) ≡ run_initial a c m
     unfolding run_initial
     start-run m =
-        ap settle (follows c file T a.initial (S + 2) f.start f.start (S + 3) (initial-wired file a ok) ok.initial-reads m)
+        ap settle (follows c f.variables file T a.initial (S + 2) f.start f.start (S + 3) (initial-wired file a ok) ok.initial-reads m)
         ∙ in-state f.start ok.start-state (statement c a.initial m)
 
     -- a guard, and then the action
     guard-run : (t : Transition) (g : ℕ) → Sound file f.variables S t → Wired T S t.action g t.to t.to (g + 1) → (m : Machine) (r : Run (Unit {0}))
-        → Costs c 1 goes m r → settle (onward (walk_from (records_in file f.variables) f T c) (leads (λ _. g) g r)) ≡ ends_in t.to (after r (λ _. statement c t.action))
+        → Costs c 1 goes m r → settle (onward (walk_from (records_in file f.variables) T c) (leads (λ _. g) g r)) ≡ ends_in t.to (after r (λ _. statement c t.action))
     unfolding onward leads ends_in settled
     guard-run t g s w m (going u v) h =
-        ap settle (follows c file T t.action g t.to t.to (g + 1) w s.action-reads v) ∙ in-state t.to s.to-state (statement c t.action v)
+        ap settle (follows c f.variables file T t.action g t.to t.to (g + 1) w s.action-reads v) ∙ in-state t.to s.to-state (statement c t.action v)
     guard-run t g s w m (returned v) h = absurd h.0
     guard-run t g s w m (stopped i v) h = refl
 
     -- a call, by its entry and by its transition
-    call-run : (e : Option Step) (t : Option Transition) → Entry file f.variables S T e t → (m : Machine) → settle (walk_by (records_in file f.variables) f T c e m) ≡ run_by a t c m
+    call-run : (e : Option Step) (t : Option Transition) → Entry file f.variables S T e t → (m : Machine)
+        → settle (walk_by (records_in file f.variables) T c e m) ≡ run_by a t c m
     unfolding walk_by run_by admitted with
     call-run e t neither m =
-        ap settle (follows c file T a.fallback (S + 1) S S _ (fallback-wired file a ok) ok.fallback-reads m)
+        ap settle (follows c f.variables file T a.fallback (S + 1) S S _ (fallback-wired file a ok) ok.fallback-reads m)
         ∙ ends S before (omega arith) (rw (eq-eqb S S refl)) (statement c a.fallback m)
     call-run e t (both u g s w) m = rw s.guard-reads (guard-run u g s w m (guarded c u.guard m) (guarded-costs c u.guard m))
 

@@ -1,5 +1,5 @@
 -- Lent words that begin with an agreement's expansion pass the tests 11 and 12, and the steps in them are the expansion.
-use mathlib.Core.Path.{◌≡◌, refl, ◌∙◌, ap, ap₂}
+use mathlib.Core.Path.{◌≡◌, refl, sym, ◌∙◌, ap, ap₂}
 use Prim.Native.Nat.{ℕ, ◌*◌}
 use native.Mathlib.Omega.{arith}
 use mathlib.Core.Bool.{Bool, true, false}
@@ -17,15 +17,16 @@ use Rattle.rules.specs.Expanding.{Step, expansion, words_of, table, steps_in}
 use Rattle.rules.specs.Accepting.{too_few, written}
 use Rattle.rules.specs.Calling.{call_tests}
 use Rattle.rules.specs.Stepping.{begins_with, lent_tests, lent_steps}
-use Rattle.forms.proofs.ReadBack.{false-true, and-true}
+use Rattle.laws.proofs.Basics.{clash, both-true}
+use Rattle.laws.proofs.Tables.{table-length}
 
 -- words that begin with others are those and a rest
-begins : (words front : List ℕ) → begins_with words front ≡ true → (rest : List ℕ) × (words ≡ front ++ rest)
+pub begins : (words front : List ℕ) → begins_with words front ≡ true → (rest : List ℕ) × (words ≡ front ++ rest)
 unfolding begins_with
 begins ws [] e = (ws, refl)
-begins [] (y ∷ ys) e = false-true e
+begins [] (y ∷ ys) e = clash (sym e)
 begins (w ∷ ws) (y ∷ ys) e =
-    let t = and-true (eqb w y) (begins_with ws ys) e in
+    let t = both-true (eqb w y) (begins_with ws ys) e in
     let r = begins ws ys t.1 in
     (r.0, ap₂ (λ (x : ℕ) (l : List ℕ). x ∷ l) (eqb-true w y t.0) r.1)
 
@@ -38,11 +39,6 @@ begins-with (x ∷ xs) ys = rw (eq-eqb x x refl) (begins-with xs ys)
 pub written-begins : (a : Agreement) (words : List ℕ) → begins_with (written a words) (table (expansion a)) ≡ true
 unfolding written
 written-begins a words = begins-with (table (expansion a)) _
-
-table-length : (l : List Step) → length (table l) ≡ 5 * length l
-unfolding table joined words_of
-table-length [] = refl
-table-length (s ∷ l) = let h = table-length l in omega arith
 
 steps_in-table : (l : List Step) → steps_in (table l) ≡ l
 unfolding steps_in table joined words_of
@@ -68,6 +64,7 @@ module _ (words : List ℕ) (a : Agreement) (h : begins_with words (table (expan
   unfolding first_of lent_tests
   lent-pass = rw (enough, h)
 
-  pub lent-call-pass : (s : State) (k : Call) (b : Bool) → first_of (call_tests a.fields s k (lent_tests a words) b) ≡ first_of (call_tests a.fields s k [] b)
+  pub lent-call-pass : (s : State) (k : Call) (b : Bool)
+      → first_of (call_tests a.fields s k (lent_tests a words) b) ≡ first_of (call_tests a.fields s k [] b)
   unfolding first_of call_tests lent_tests
   lent-call-pass s k b = rw (enough, h)

@@ -13,7 +13,8 @@ use Rattle.rules.specs.Running.{Run, going, returned, stopped, Exec, Action, aft
 use Rattle.rules.specs.Calling.{End, ended, halted, leads}
 use Rattle.rules.specs.Stepping.{Records, leaving, with, decided, performed, advance, onward, taken, walk, walk_from}
 use Rattle.rules.specs.Demands.{LoopsEnd, RunsEnd}
-use Rattle.forms.proofs.Choosing.{done, ◌&◌, if-by, choose-by}
+use Rattle.laws.proofs.Basics.{if-by}
+use Rattle.laws.proofs.Choosing.{done, ◌&◌, choose-by}
 use Rattle.forms.proofs.Units.{Way, goes, either, limit, Later, Costs, way_of, perform-costs, condition-costs, Grows, then_grows, perform-grows, statement-grows}
 
 -- what one more does not change, any number more does not
@@ -70,32 +71,32 @@ module _ (c : Setting) where
     with-same w m f d t g h e k (some x) = leads-same (w x) m d t g h e (f x m) (k x)
 
     taken-same : (m : Machine) (g h : ℕ → Machine → End) → Alike m g h
-        → (o : Option Step) → taken records c.fields steps c g o m ≡ taken records c.fields steps c h o m
+        → (o : Option Step) → taken records steps c g o m ≡ taken records steps c h o m
     unfolding taken advance decided performed onward
     taken-same m g h e none = refl
     taken-same m g h e (some s) =
-        choose-by Done s.kind _ _ (halted 25) (halted 25) (decides & decides & performs & performs & performs & performs & done) refl
+        if-by Done (leb 4 s.kind) performs (choose-by Done s.kind _ _ (halted 25) (halted 25) (decides & decides & done) refl)
       where
         Done : (x y : Machine → End) → Type 0
         Done x y = onward g (x m) ≡ onward h (y m)
 
-        decides : Done (decided records c.fields steps c s) (decided records c.fields steps c s)
+        decides : Done (decided records steps c s) (decided records steps c s)
         decides = with-same (λ _. goes) m (condition c) _ _ g h e (λ x. condition-costs c x m) (records.expr s.at)
 
-        performs : Done (performed records c.fields steps c s) (performed records c.fields steps c s)
+        performs : Done (performed records steps c s) (performed records steps c s)
         performs = with-same way_of m (perform c) _ _ g h e (λ x. perform-costs c x m) (records.simple s.at)
 
     -- one node more changes nothing
-    pub walk_more : (k n : ℕ) (m : Machine) → 0 < k → limit c < k + m.units → walk records c.fields steps c (suc k) n m ≡ walk records c.fields steps c k n m
+    pub walk_more : (k n : ℕ) (m : Machine) → 0 < k → limit c < k + m.units → walk records steps c (suc k) n m ≡ walk records steps c k n m
     unfolding walk
     walk_more zero n m p q = absurd (omega arith)
     walk_more (suc k) n m p q =
-        if-by (λ (x y : Machine → End). x m ≡ y m) (leb n c.fields.states) {x = ended n} {y = ended n} refl
+        if-by (λ (x y : Machine → End). x m ≡ y m) (leb n c.states) {x = ended n} {y = ended n} refl
         (taken-same m _ _ (λ t v l. walk_more k t v (omega arith) (omega arith)) (leaving steps n))
 
-    walk_ends : (more n : ℕ) (m : Machine) → walk records c.fields steps c (limit c + 1 + more) n m ≡ walk_from records c.fields steps c n m
+    walk_ends : (more n : ℕ) (m : Machine) → walk records steps c (limit c + 1 + more) n m ≡ walk_from records steps c n m
     unfolding walk_from
-    walk_ends more n m = any-more (λ k. walk records c.fields steps c k n m) (limit c) (λ k l. walk_more k n m (omega arith) (omega arith)) more
+    walk_ends more n m = any-more (λ k. walk records steps c k n m) (limit c) (λ k l. walk_more k n m (omega arith) (omega arith)) more
 
 -- ---- the theorems
 

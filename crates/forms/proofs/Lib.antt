@@ -1,5 +1,3 @@
-pub mod Choosing
-pub mod ReadBack
 pub mod Accepted
 pub mod Units
 pub mod Endings

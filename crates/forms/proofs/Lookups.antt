@@ -1,7 +1,7 @@
 -- In a table that has a statement's steps, and no other step from its nodes, a lookup finds them.
 use mathlib.Core.Path.{◌≡◌, refl, ◌∙◌, ap}
 use mathlib.Core.Logic.{◌≢◌}
-use Prim.Native.Nat.{ℕ, ◌+◌, ◌≤◌, ◌<◌}
+use Prim.Native.Nat.{ℕ, ◌+◌, ◌-◌, min, ◌≤◌, ◌<◌}
 use native.Mathlib.Omega.{arith}
 use mathlib.Core.Bool.{Bool, true, false, ◌&&◌}
 use mathlib.Core.Option.{Option, some}
@@ -9,12 +9,14 @@ use mathlib.Core.List.{List, [], ◌∷◌, ◌++◌, append-nil}
 use lib.Dec.{eqb}
 use borrow.Author.Tests.{eq-eqb, ne_eqb}
 use Rattle.std.specs.Prelude.{if◌then◌else◌}
-use Rattle.rules.specs.declared.Fields.{Fields}
 use Rattle.rules.specs.Basics.{find}
-use Rattle.rules.specs.Syntax.{Simple, Stmt, simple, block, if_then, if_else, while, for, Stmts, last, ◌then◌}
-use Rattle.rules.specs.Expanding.{Step, step, step_of, joints, made, made_all, expand, expand_all}
+use Rattle.rules.specs.Syntax.{Simple, set, transfer, require, return}
+use Rattle.rules.specs.Syntax.{Stmt, simple, block, if_then, if_else, while, for, Stmts, last, ◌then◌}
+use Rattle.rules.specs.Expanding.{Step, step, step_of, step_kind, joints, made, made_all, expand, expand_all}
 use Rattle.rules.specs.Stepping.{leaving, step_from, target_in}
 use Rattle.rules.specs.Demands.{All, none, more}
+use Rattle.laws.proofs.Each.{weaken}
+pub use Rattle.laws.proofs.Each.{all_append}
 
 -- ---- the steps that leave a node
 
@@ -51,11 +53,6 @@ find-from p t h (s ∷ l) = go (eqb s.origin p) (find-from p t h l)
     go true e = ap (λ (o : Option Step). if t true s then some s else o) e
     go false e = rw (h s) e
 
--- of each of two lists
-pub all_append : {A : Type 0} {P : A → Type 0} (a b : List A) → All P a → All P b → All P (a ++ b)
-all_append [] b h k = k
-all_append (x ∷ a) b (more p h) k = more p (all_append a b h k)
-
 -- no step of the list leaves p
 abbrev pub Away : ℕ → List Step → Type 0
 Away p = All (λ (s : Step). s.origin ≢ p)
@@ -65,32 +62,65 @@ unfolding from
 none_from p l none = refl
 none_from p l (more {x = s} {xs = k} e h) = miss p s k e ∙ none_from p k h
 
--- no step of a statement leaves a node that is neither its entry nor new
+-- the kinds of one-step statements' steps, and so none is a guard
+pub kind-high : (x : Simple) → 4 ≤ step_kind x
+unfolding step_kind
+kind-high (set t e) = omega arith
+kind-high (transfer k e) = omega arith
+kind-high (require e) = omega arith
+kind-high (return e) = omega arith
+
+no-guard : (x : Simple) → eqb (step_kind x) 1 ≡ false
+no-guard x = ne_eqb (step_kind x) 1 (omega (arith, kind-high x))
+
+-- how far p is from the k nodes from n on: 0 at each of them
+abbrev pub gap : (p n k : ℕ) → ℕ
+gap p n k = n - p + (p + 1 - (n + k))
+
+abbrev pub Outside : (p n k : ℕ) → Type 0
+Outside p n k = 1 ≤ gap p n k
+
+-- p is the entry o or one of k nodes from n on
+abbrev pub Near : (p o n k : ℕ) → Type 0
+Near p o n k = min (gap p o 1) (gap p n k) ≡ 0
+
+-- no step of a statement leaves a node that is neither its entry nor new, and none is a guard
+abbrev Clear : ℕ → List Step → Type 0
+Clear p = All (λ (s : Step). (s.origin ≢ p) × (eqb s.kind 1 ≡ false))
+
 mutual
   unfolding expand made step_of joints
 
-  pub away : (s : Stmt) (o d r n p : ℕ) → o ≢ p → (n ≤ p → p < n + made s → ⊥) → Away p (expand s o d r n)
-  away (simple at x) o d r n p h out = more h none
-  away (block ss) o d r n p h out = aways ss o n d r (n + joints ss) p h (λ l u. out l (omega arith)) (λ l u. out (omega arith) (omega arith))
-  away (if_then at e s) o d r n p h out =
-      more h (more h (away s n d r (n + 1) p (λ e. out (omega arith) (omega arith)) (λ l u. out (omega arith) (omega arith))))
-  away (if_else at e s t) o d r n p h out =
-      more h (more h (all_append (expand s n d r (n + 2)) _
-      (away s n d r (n + 2) p (λ e. out (omega arith) (omega arith)) (λ l u. out (omega arith) (omega arith)))
-      (away t (n + 1) d r (n + 2 + made s) p (λ e. out (omega arith) (omega arith)) (λ l u. out (omega arith) (omega arith)))))
-  away (while at e s) o d r n p h out =
-      more h (more h (away s n o r (n + 1) p (λ e. out (omega arith) (omega arith)) (λ l u. out (omega arith) (omega arith))))
-  away (for a x at e b y s) o d r n p h out =
-      let q : n ≢ p = λ e. out (omega arith) (omega arith) in
-      let k : n + 2 ≢ p = λ e. out (omega arith) (omega arith) in
-      more h (more q (more q (all_append (expand s (n + 1) (n + 2) r (n + 3)) _
-      (away s (n + 1) (n + 2) r (n + 3) p (λ e. out (omega arith) (omega arith)) (λ l u. out (omega arith) (omega arith))) (more k none))))
+  clear : (s : Stmt) (o d r n p : ℕ) → o ≢ p → Outside p n (made s) → Clear p (expand s o d r n)
+  clear (simple at x) o d r n p h out = more (h, no-guard x) none
+  clear (block ss) o d r n p h out = clears ss o n d r (n + joints ss) p h (omega arith) (omega arith)
+  clear (if_then at e s) o d r n p h out = more (h, refl) (more (h, refl) (clear s n d r (n + 1) p (omega arith) (omega arith)))
+  clear (if_else at e s t) o d r n p h out =
+      more (h, refl) (more (h, refl) (all_append (expand s n d r (n + 2)) _
+      (clear s n d r (n + 2) p (omega arith) (omega arith)) (clear t (n + 1) d r (n + 2 + made s) p (omega arith) (omega arith))))
+  clear (while at e s) o d r n p h out = more (h, refl) (more (h, refl) (clear s n o r (n + 1) p (omega arith) (omega arith)))
+  clear (for a x at e b y s) o d r n p h out =
+      let q : n ≢ p = omega arith in
+      more (h, no-guard x) (more (q, refl) (more (q, refl) (all_append (expand s (n + 1) (n + 2) r (n + 3)) _
+      (clear s (n + 1) (n + 2) r (n + 3) p (omega arith) (omega arith)) (more (omega arith, no-guard y) none))))
 
-  aways : (ss : Stmts) (o j d r n p : ℕ) → o ≢ p → (j ≤ p → p < j + joints ss → ⊥) → (n ≤ p → p < n + made_all ss → ⊥) → Away p (expand_all ss o j d r n)
-  aways (last s) o j d r n p h mid out = away s o d r n p h out
-  aways (s then ss) o j d r n p h mid out =
-      all_append (expand s o j r n) _ (away s o j r n p h (λ l u. out l (omega arith)))
-      (aways ss j (j + 1) d r (n + made s) p (λ e. mid (omega arith) (omega arith)) (λ l u. mid (omega arith) (omega arith)) (λ l u. out (omega arith) (omega arith)))
+  clears : (ss : Stmts) (o j d r n p : ℕ) → o ≢ p → Outside p j (joints ss) → Outside p n (made_all ss) → Clear p (expand_all ss o j d r n)
+  clears (last s) o j d r n p h mid out = clear s o d r n p h out
+  clears (s then ss) o j d r n p h mid out =
+      all_append (expand s o j r n) _ (clear s o j r n p h (omega arith))
+      (clears ss j (j + 1) d r (n + made s) p (omega arith) (omega arith) (omega arith))
+
+pub away : (s : Stmt) (o d r n p : ℕ) → o ≢ p → Outside p n (made s) → Away p (expand s o d r n)
+away s o d r n p h out = weaken (λ _ x. x.0) (clear s o d r n p h out)
+
+aways : (ss : Stmts) (o j d r n p : ℕ) → o ≢ p → Outside p j (joints ss) → Outside p n (made_all ss) → Away p (expand_all ss o j d r n)
+aways ss o j d r n p h mid out = weaken (λ _ x. x.0) (clears ss o j d r n p h mid out)
+
+abbrev pub Quiet : List Step → Type 0
+Quiet = All (λ (s : Step). eqb s.kind 1 ≡ false)
+
+pub quiet : (s : Stmt) (o d r n : ℕ) → Quiet (expand s o d r n)
+quiet s o d r n = weaken (λ _ x. x.1) (clear s o d r n (o + n + made s + 1) (omega arith) (omega arith))
 
 module _ (steps : List Step) where
   -- the table has the steps from p that the list has
@@ -120,21 +150,20 @@ module _ (steps : List Step) (S : ℕ) where
   abbrev pub Two : (at o y z : ℕ) → Type 0
   Two at o y z = Held o (step o y 2 0 at ∷ step o z 3 0 at ∷ [])
 
-  module _ (file : List ℕ) (f : Fields) where
-    pub leaving-held : (p : ℕ) (s : Step) (l : List Step) → Held p (s ∷ l) → leaving steps p ≡ some s
-    unfolding leaving find
-    leaving-held p s l h = find-from p (λ b _. b) (λ _. refl) steps ∙ ap (find (λ _. true)) h.2
+  pub leaving-held : (p : ℕ) (s : Step) (l : List Step) → Held p (s ∷ l) → leaving steps p ≡ some s
+  unfolding leaving find
+  leaving-held p s l h = find-from p (λ b _. b) (λ _. refl) steps ∙ ap (find (λ _. true)) h.2
 
-    kind-held : (k at o y z : ℕ) (h : Two at o y z)
-        → step_from steps o k ≡ find (λ (s : Step). eqb s.kind k) (step o y 2 0 at ∷ step o z 3 0 at ∷ h.1)
-    unfolding step_from
-    kind-held k at o y z h = find-from o (λ b s. b && eqb s.kind k) (λ _. refl) steps ∙ ap (find (λ (s : Step). eqb s.kind k)) h.2
+  kind-held : (k at o y z : ℕ) (h : Two at o y z)
+      → step_from steps o k ≡ find (λ (s : Step). eqb s.kind k) (step o y 2 0 at ∷ step o z 3 0 at ∷ h.1)
+  unfolding step_from
+  kind-held k at o y z h = find-from o (λ b s. b && eqb s.kind k) (λ _. refl) steps ∙ ap (find (λ (s : Step). eqb s.kind k)) h.2
 
-    -- where a condition's value leads
-    pub branch_held : (at o y z : ℕ) → Two at o y z → (b : Bool) → target_in (step_from steps o (if b then 2 else 3)) ≡ (if b then y else z)
-    unfolding target_in find
-    branch_held at o y z h true = ap target_in (kind-held 2 at o y z h)
-    branch_held at o y z h false = ap target_in (kind-held 3 at o y z h)
+  -- where a condition's value leads
+  pub branch_held : (at o y z : ℕ) → Two at o y z → (b : Bool) → target_in (step_from steps o (if b then 2 else 3)) ≡ (if b then y else z)
+  unfolding target_in find
+  branch_held at o y z h true = ap target_in (kind-held 2 at o y z h)
+  branch_held at o y z h false = ap target_in (kind-held 3 at o y z h)
 
   abbrev mutual
     pub Wired : Stmt → (o d r n : ℕ) → Type 0
@@ -161,74 +190,54 @@ module _ (steps : List Step) (S : ℕ) where
 
   -- a condition for one part, from the new node n to t
   branch-wired : (at o d t r n : ℕ) (s : Stmt) → S < o → o < n
-      → (S < n → n < n + 1 → Same steps (expand s n t r (n + 1)) n
-      → ((p : ℕ) → n + 1 ≤ p → p < n + 1 + made s → Same steps (expand s n t r (n + 1)) p) → Wired s n t r (n + 1))
-      → Same steps (step o n 2 0 at ∷ step o d 3 0 at ∷ expand s n t r (n + 1)) o
-      → ((p : ℕ) → n ≤ p → p < n + (1 + made s) → Same steps (step o n 2 0 at ∷ step o d 3 0 at ∷ expand s n t r (n + 1)) p)
+      → (S < n → n < n + 1 → ((p : ℕ) → Near p n (n + 1) (made s) → Same steps (expand s n t r (n + 1)) p) → Wired s n t r (n + 1))
+      → ((p : ℕ) → Near p o n (1 + made s) → Same steps (step o n 2 0 at ∷ step o d 3 0 at ∷ expand s n t r (n + 1)) p)
       → Two at o n d × Wired s n t r (n + 1)
-  branch-wired at o d t r n s g f part here new =
-      (two at o n d _ g here, part (omega arith) (omega arith) (body n (omega arith) (omega arith)) (λ p l u. body p (omega arith) u))
-    where
-      body : (p : ℕ) → n ≤ p → p < n + 1 + made s → Same steps (expand s n t r (n + 1)) p
-      body p l u = past at o n d _ p (omega arith) (new p l (omega arith))
+  branch-wired at o d t r n s g f part same =
+      (two at o n d _ g (same o (omega arith)), part (omega arith) (omega arith) (λ p i. past at o n d _ p (omega arith) (same p (omega arith))))
 
   mutual
     unfolding expand made step_of joints
 
-    pub wired : (s : Stmt) (o d r n : ℕ) → S < o → o < n → Same steps (expand s o d r n) o → ((p : ℕ) → n ≤ p → p < n + made s → Same steps (expand s o d r n) p)
-        → Wired s o d r n
-    wired (simple at x) o d r n g f here new = one (step_of at x o d r) [] g here
-    wired (block ss) o d r n g f here new =
-        wireds ss o n d r (n + joints ss) g f (omega arith) here (λ p l u. new p l (omega arith)) (λ p l u. new p (omega arith) (omega arith))
-    wired (if_then at e s) o d r n g f here new = branch-wired at o d d r n s g f (wired s n d r (n + 1)) here new
-    wired (if_else at e s t) o d r n g f here new =
+    pub wired : (s : Stmt) (o d r n : ℕ) → S < o → o < n → ((p : ℕ) → Near p o n (made s) → Same steps (expand s o d r n) p) → Wired s o d r n
+    wired (simple at x) o d r n g f same = one (step_of at x o d r) [] g (same o (omega arith))
+    wired (block ss) o d r n g f same = wireds ss o n d r (n + joints ss) g f (omega arith) (λ p i. same p (omega arith))
+    wired (if_then at e s) o d r n g f same = branch-wired at o d d r n s g f (wired s n d r (n + 1)) same
+    wired (if_else at e s t) o d r n g f same =
         let A : List Step = expand s n d r (n + 2) in
         let B : List Step = expand t (n + 1) d r (n + 2 + made s) in
-        let both : (p : ℕ) → n ≤ p → p < n + 2 + made s + made t → Same steps (A ++ B) p
-        = λ p l u. past at o n (n + 1) _ p (omega arith) (new p l (omega arith)) in
-        let part : (p : ℕ) → n ≤ p → n + 1 ≢ p → p < n + 2 + made s → Same steps A p
-        = λ p l k u. same_first steps A B p (away t (n + 1) d r (n + 2 + made s) p k (omega arith)) (both p l (omega arith)) in
-        let other : (p : ℕ) → n + 1 ≤ p → p < n + 2 + made s + made t → (n + 2 ≤ p → p < n + 2 + made s → ⊥) → Same steps B p
-        = λ p l u k. same_second steps A B p (away s n d r (n + 2) p (omega arith) k) (both p (omega arith) u) in (
-          two at o n (n + 1) _ g here,
-          wired s n d r (n + 2) (omega arith) (omega arith) (part n (omega arith) (omega arith) (omega arith))
-              (λ p l u. part p (omega arith) (omega arith) u),
-          wired t (n + 1) d r (n + 2 + made s) (omega arith) (omega arith) (other (n + 1) (omega arith) (omega arith) (omega arith))
-              (λ p l u. other p (omega arith) u (omega arith)),
+        let both : (p : ℕ) → gap p n (2 + made s + made t) ≡ 0 → Same steps (A ++ B) p
+        = λ p i. past at o n (n + 1) _ p (omega arith) (same p (omega arith)) in (
+          two at o n (n + 1) _ g (same o (omega arith)),
+          wired s n d r (n + 2) (omega arith) (omega arith) (λ p i.
+              same_first steps A B p (away t (n + 1) d r (n + 2 + made s) p (omega arith) (omega arith)) (both p (omega arith))),
+          wired t (n + 1) d r (n + 2 + made s) (omega arith) (omega arith) (λ p i.
+              same_second steps A B p (away s n d r (n + 2) p (omega arith) (omega arith)) (both p (omega arith))),
         )
-    wired (while at e s) o d r n g f here new = branch-wired at o d o r n s g f (wired s n o r (n + 1)) here new
-    wired (for a x at e b y s) o d r n g f here new =
+    wired (while at e s) o d r n g f same = branch-wired at o d o r n s g f (wired s n o r (n + 1)) same
+    wired (for a x at e b y s) o d r n g f same =
         let A : List Step = expand s (n + 1) (n + 2) r (n + 3) in
         let B : List Step = step_of b y (n + 2) n r ∷ [] in
-        let test : (p : ℕ) → n ≤ p → p < n + 3 + made s → Same steps (step n (n + 1) 2 0 at ∷ step n d 3 0 at ∷ (A ++ B)) p
-        = λ p l u. same-tail steps (step_of a x o n r) _ p (omega arith) (new p l (omega arith)) in
-        let both : (p : ℕ) → n < p → p < n + 3 + made s → Same steps (A ++ B) p
-        = λ p l u. past at n (n + 1) d _ p (omega arith) (test p (omega arith) u) in
-        let body : (p : ℕ) → n < p → n + 2 ≢ p → p < n + 3 + made s → Same steps A p
-        = λ p l k u. same_first steps A B p (more k none) (both p l u) in (
-          one (step_of a x o n r) _ g here,
-          two at n (n + 1) d _ (omega arith) (test n (omega arith) (omega arith)),
-          wired s (n + 1) (n + 2) r (n + 3) (omega arith) (omega arith) (body (n + 1) (omega arith) (omega arith) (omega arith))
-              (λ p l u. body p (omega arith) (omega arith) u),
+        let test : (p : ℕ) → gap p n (3 + made s) ≡ 0 → Same steps (step n (n + 1) 2 0 at ∷ step n d 3 0 at ∷ (A ++ B)) p
+        = λ p i. same-tail steps (step_of a x o n r) _ p (omega arith) (same p (omega arith)) in
+        let both : (p : ℕ) → gap p (n + 1) (2 + made s) ≡ 0 → Same steps (A ++ B) p
+        = λ p i. past at n (n + 1) d _ p (omega arith) (test p (omega arith)) in (
+          one (step_of a x o n r) _ g (same o (omega arith)),
+          two at n (n + 1) d _ (omega arith) (test n (omega arith)),
+          wired s (n + 1) (n + 2) r (n + 3) (omega arith) (omega arith) (λ p i.
+              same_first steps A B p (more (omega arith) none) (both p (omega arith))),
           one (step_of b y (n + 2) n r) [] (omega arith)
-              (same_second steps A B (n + 2) (away s (n + 1) (n + 2) r (n + 3) (n + 2) (omega arith) (omega arith)) (both (n + 2) (omega arith) (omega arith))),
+              (same_second steps A B (n + 2) (away s (n + 1) (n + 2) r (n + 3) (n + 2) (omega arith) (omega arith)) (both (n + 2) (omega arith))),
         )
 
-    wireds : (ss : Stmts) (o j d r n : ℕ) → S < o → o < j → j + joints ss ≤ n → Same steps (expand_all ss o j d r n) o
-        → ((p : ℕ) → j ≤ p → p < j + joints ss → Same steps (expand_all ss o j d r n) p)
-        → ((p : ℕ) → n ≤ p → p < n + made_all ss → Same steps (expand_all ss o j d r n) p) → Wireds ss o j d r n
-    wireds (last s) o j d r n g f q here mid new = wired s o d r n g (omega arith) here new
-    wireds (s then ss) o j d r n g f q here mid new =
+    wireds : (ss : Stmts) (o j d r n : ℕ) → S < o → o < j → j + joints ss ≤ n
+        → ((p : ℕ) → min (gap p j (joints ss)) (min (gap p o 1) (gap p n (made_all ss))) ≡ 0 → Same steps (expand_all ss o j d r n) p) → Wireds ss o j d r n
+    wireds (last s) o j d r n g f q same = wired s o d r n g (omega arith) (λ p i. same p (omega arith))
+    wireds (s then ss) o j d r n g f q same =
         let A : List Step = expand s o j r n in
-        let B : List Step = expand_all ss j (j + 1) d r (n + made s) in
-        let first : (p : ℕ) → j ≢ p → (j + 1 ≤ p → p < j + 1 + joints ss → ⊥) → p < n + made s → Same steps (A ++ B) p → Same steps A p
-        = λ p h m u. same_first steps A B p (aways ss j (j + 1) d r (n + made s) p h m (omega arith)) in
-        let second : (p : ℕ) → o ≢ p → (n ≤ p → p < n + made s → ⊥) → Same steps (A ++ B) p → Same steps B p
-        = λ p h m. same_second steps A B p (away s o j r n p h m) in (
-          wired s o j r n g (omega arith) (first o (omega arith) (omega arith) (omega arith) here)
-              (λ p l u. first p (omega arith) (omega arith) u (new p l (omega arith))),
-          wireds ss j (j + 1) d r (n + made s) (omega arith) (omega arith) (omega arith)
-              (second j (omega arith) (omega arith) (mid j (omega arith) (omega arith)))
-              (λ p l u. second p (omega arith) (omega arith) (mid p (omega arith) (omega arith)))
-              (λ p l u. second p (omega arith) (omega arith) (new p (omega arith) (omega arith))),
+        let B : List Step = expand_all ss j (j + 1) d r (n + made s) in (
+          wired s o j r n g (omega arith) (λ p i.
+              same_first steps A B p (aways ss j (j + 1) d r (n + made s) p (omega arith) (omega arith) (omega arith)) (same p (omega arith))),
+          wireds ss j (j + 1) d r (n + made s) (omega arith) (omega arith) (omega arith) (λ p i.
+              same_second steps A B p (away s o j r n p (omega arith) (omega arith)) (same p (omega arith))),
         )

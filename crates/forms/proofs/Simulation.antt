@@ -5,9 +5,8 @@ use native.Mathlib.Omega.{arith}
 use mathlib.Core.Bool.{Bool, true, false}
 use mathlib.Core.Option.{some}
 use mathlib.Core.List.{List, [], ◌∷◌}
-use borrow.Author.Tests.{lt-leb}
+use borrow.Author.Tests.{lt-leb, le-leb}
 use Rattle.std.specs.Prelude.{if◌then◌else◌}
-use Rattle.rules.specs.declared.Fields.{Fields}
 use Rattle.rules.specs.declared.Machine.{Machine}
 use Rattle.rules.specs.Basics.{choose}
 use Rattle.rules.specs.Syntax.{Expr, Simple, set, transfer, require, return}
@@ -17,19 +16,19 @@ use Rattle.rules.specs.Expanding.{Step, step, step_of, step_kind, target_of, joi
 use Rattle.rules.specs.declared.Setting.{Setting}
 use Rattle.rules.specs.Running.{Run, going, returned, stopped, Action, after, ◌>>=◌, ◌>>◌, skip, perform, condition, loop, repeat, statement, statements}
 use Rattle.rules.specs.Calling.{End, halted, leads}
-use Rattle.rules.specs.Stepping.{records_in, step_from, target_in, with, decided, performed, advance, onward, taken, walk, walk_from}
+use Rattle.rules.specs.Stepping.{Records, records_in, step_from, target_in, with, decided, performed, advance, onward, taken, walk, walk_from}
 use Rattle.forms.proofs.Units.{goes, either, MayGo, MayReturn, limit, Later, Costs, way_of, perform-costs, condition-costs, Grows, then_grows, perform-grows, statement-grows}
 use Rattle.forms.proofs.Endings.{walk_more}
-use Rattle.forms.proofs.Lookups.{Held, One, Two, Wired, Wireds, leaving-held, branch_held}
+use Rattle.forms.proofs.Lookups.{kind-high, Held, One, Two, Wired, Wireds, leaving-held, branch_held}
 use Rattle.forms.proofs.Accepted.{Reads, ReadsAll}
 
-module _ (c : Setting) (file : List ℕ) (steps : List Step) where
-  abbrev f : Fields
-  f = c.fields
+module _ (c : Setting) (vars : ℕ) (file : List ℕ) (steps : List Step) where
+  abbrev R : Records
+  R = records_in file vars
 
   -- the walk from a node
   abbrev pub W : ℕ → Machine → End
-  W = walk_from (records_in file f.variables) f steps c
+  W = walk_from R steps c
 
   -- where the walk goes on after an action to d with return node r
   abbrev pub on_from : (d r : ℕ) → Run (Unit {0}) → End
@@ -43,40 +42,30 @@ module _ (c : Setting) (file : List ℕ) (steps : List Step) where
 
   -- ---- one step
 
-  at-step : (p : ℕ) (s : Step) (l : List Step) → Held steps f.states p (s ∷ l) → (m : Machine)
-      → W p m ≡ onward (walk (records_in file f.variables) f steps c (limit c)) (advance (records_in file f.variables) f steps c s m)
+  at-step : (p : ℕ) (s : Step) (l : List Step) → Held steps c.states p (s ∷ l) → (m : Machine)
+      → W p m ≡ onward (walk R steps c (limit c)) (advance R steps c s m)
   unfolding walk_from walk taken
-  at-step p s l h m = rw (lt-leb p f.states h.0, leaving-held steps f.states file f p s l h)
+  at-step p s l h m = rw (lt-leb p c.states h.0, leaving-held steps c.states p s l h)
 
   -- after a step the limit is enough nodes
-  on-W : (p : ℕ) (m v : Machine) → Later c 1 m v → walk (records_in file f.variables) f steps c (limit c) p v ≡ W p v
+  on-W : (p : ℕ) (m v : Machine) → Later c 1 m v → walk R steps c (limit c) p v ≡ W p v
   unfolding walk_from
-  on-W p m v h = sym (walk_more c (records_in file f.variables) steps (limit c) p v (omega arith) (omega arith))
+  on-W p m v h = sym (walk_more c (records_in file vars) steps (limit c) p v (omega arith) (omega arith))
 
-  performs : (at : ℕ) (x : Simple) (o d r : ℕ) → advance (records_in file f.variables) f steps c (step_of at x o d r) ≡ performed (records_in file f.variables) f steps c (step_of at x o d r)
-  unfolding advance choose step_of step_kind
-  performs at (set t e) o d r = refl
-  performs at (transfer k e) o d r = refl
-  performs at (require e) o d r = refl
-  performs at (return e) o d r = refl
+  performs : (at : ℕ) (x : Simple) (o d r : ℕ) → advance R steps c (step_of at x o d r) ≡ performed R steps c (step_of at x o d r)
+  unfolding advance step_of
+  performs at x o d r = rw (le-leb 4 (step_kind x) (kind-high x))
 
   -- a statement that goes on leads to d, and one that returns to r
-  goes_to : (x : Simple) (d r : ℕ) → MayGo (way_of x) → target_of x d r ≡ d
+  aims : (x : Simple) (d r : ℕ) → (MayGo (way_of x) → target_of x d r ≡ d) × (MayReturn (way_of x) → target_of x d r ≡ r)
   unfolding target_of
-  goes_to (set t e) d r h = refl
-  goes_to (transfer k e) d r h = refl
-  goes_to (require e) d r h = refl
-  goes_to (return e) d r h = absurd h
-
-  returns_to : (x : Simple) (d r : ℕ) → MayReturn (way_of x) → target_of x d r ≡ r
-  unfolding target_of
-  returns_to (set t e) d r h = absurd h
-  returns_to (transfer k e) d r h = absurd h
-  returns_to (require e) d r h = absurd h
-  returns_to (return e) d r h = refl
+  aims (set t e) d r = (λ _. refl, absurd)
+  aims (transfer k e) d r = (λ _. refl, absurd)
+  aims (require e) d r = (λ _. refl, absurd)
+  aims (return e) d r = (absurd, λ _. refl)
 
   -- a one-step statement
-  one-does : (k at : ℕ) (x : Simple) (o d r : ℕ) → One steps f.states at x o d r → simple_at file f.variables at ≡ some x → Does k (perform c x) o d r
+  one-does : (k at : ℕ) (x : Simple) (o d r : ℕ) → One steps c.states at x o d r → simple_at file vars at ≡ some x → Does k (perform c x) o d r
   unfolding performed with step_of leads onward
   one-does k at x o d r h e m p q =
       at-step o (step_of at x o d r) [] h m
@@ -85,13 +74,13 @@ module _ (c : Setting) (file : List ℕ) (steps : List Step) where
       t : ℕ
       t = target_of x d r
 
-      go : (y : Run (Unit {0})) → Costs c 1 (way_of x) m y → onward (walk (records_in file f.variables) f steps c (limit c)) (leads (λ _. t) t y) ≡ on_from d r y
-      go (going u v) g = on-W t m v g.1 ∙ ap (λ (n : ℕ). W n v) (goes_to x d r g.0)
-      go (returned v) g = on-W t m v g.1 ∙ ap (λ (n : ℕ). W n v) (returns_to x d r g.0)
+      go : (y : Run (Unit {0})) → Costs c 1 (way_of x) m y → onward (walk R steps c (limit c)) (leads (λ _. t) t y) ≡ on_from d r y
+      go (going u v) g = on-W t m v g.1 ∙ ap (λ (n : ℕ). W n v) ((aims x d r).0 g.0)
+      go (returned v) g = on-W t m v g.1 ∙ ap (λ (n : ℕ). W n v) ((aims x d r).1 g.0)
       go (stopped i v) g = refl
 
   -- a condition, and then what it names: a test fewer is left
-  branch-does : (k at : ℕ) (e : Expr) (o y z d r : ℕ) (a b : Action) → Two steps f.states at o y z → expr_at file f.variables at ≡ some e
+  branch-does : (k at : ℕ) (e : Expr) (o y z d r : ℕ) (a b : Action) → Two steps c.states at o y z → expr_at file vars at ≡ some e
       → Does k a y d r → Does k b z d r → Does (suc k) (condition c e >>= λ t. if t then a else b) o d r
   unfolding advance choose decided with leads onward
   branch-does k at e o y z d r a b h q ha hb m p l =
@@ -102,9 +91,9 @@ module _ (c : Setting) (file : List ℕ) (steps : List Step) where
       to t = target_in (step_from steps o (if t then 2 else 3))
 
       at-node : (t : Bool) (v : Machine) → W (to t) v ≡ W (if t then y else z) v
-      at-node t v = ap (λ (n : ℕ). W n v) (branch_held steps f.states file f at o y z h t)
+      at-node t v = ap (λ (n : ℕ). W n v) (branch_held steps c.states at o y z h t)
 
-      go : (x : Run Bool) → Costs c 1 goes m x → onward (walk (records_in file f.variables) f steps c (limit c)) (leads to y x) ≡ on_from d r (after x (λ t. if t then a else b))
+      go : (x : Run Bool) → Costs c 1 goes m x → onward (walk R steps c (limit c)) (leads to y x) ≡ on_from d r (after x (λ t. if t then a else b))
       go (going true v) g = on-W (to true) m v g.1 ∙ at-node true v ∙ ha v (omega arith) (omega arith)
       go (going false v) g = on-W (to false) m v g.1 ∙ at-node false v ∙ hb v (omega arith) (omega arith)
       go (returned v) g = absurd g.0
@@ -120,7 +109,7 @@ module _ (c : Setting) (file : List ℕ) (steps : List Step) where
       go (returned v) g = refl
       go (stopped i v) g = refl
 
-  loop-does : (at : ℕ) (e : Expr) (o y d r : ℕ) (a : Action) → Two steps f.states at o y d → expr_at file f.variables at ≡ some e → Grows c a
+  loop-does : (at : ℕ) (e : Expr) (o y d r : ℕ) (a : Action) → Two steps c.states at o y d → expr_at file vars at ≡ some e → Grows c a
       → ((k : ℕ) → Does k a y o r) → (k : ℕ) → Does k (loop c k (condition c e) a) o d r
   unfolding loop
   loop-does at e o y d r a h q grows ha zero = λ m p l. absurd (omega arith)
@@ -130,7 +119,7 @@ module _ (c : Setting) (file : List ℕ) (steps : List Step) where
   mutual
     unfolding statement repeat
 
-    statement-does : (s : Stmt) (o d r n : ℕ) → Wired steps f.states s o d r n → Reads file f.variables s → (k : ℕ) → Does k (statement c s) o d r
+    statement-does : (s : Stmt) (o d r n : ℕ) → Wired steps c.states s o d r n → Reads file vars s → (k : ℕ) → Does k (statement c s) o d r
     statement-does (simple at x) o d r n w q k = one-does k at x o d r w q
     statement-does (block ss) o d r n w q k = statements-do ss o n d r (n + joints ss) w q k
     statement-does (if_then at e s) o d r n w q k = λ m p l.
@@ -148,11 +137,13 @@ module _ (c : Setting) (file : List ℕ) (steps : List Step) where
         (one-does j b y (n + 2) n r w.3 q.2))
         (suc (limit c)) m (omega arith) (omega arith))
 
-    statements-do : (ss : Stmts) (o j d r n : ℕ) → Wireds steps f.states ss o j d r n → ReadsAll file f.variables ss → (k : ℕ) → Does k (statements c ss) o d r
+    statements-do : (ss : Stmts) (o j d r n : ℕ) → Wireds steps c.states ss o j d r n → ReadsAll file vars ss → (k : ℕ)
+        → Does k (statements c ss) o d r
     statements-do (last s) o j d r n w q k = statement-does s o d r n w q k
     statements-do (s then ss) o j d r n w q k =
-        then-does k o j d r (statement c s) _ (statement-grows c s) (statement-does s o j r n w.0 q.0 k) (statements-do ss j (j + 1) d r (n + made s) w.1 q.1 k)
+        then-does k o j d r (statement c s) _ (statement-grows c s) (statement-does s o j r n w.0 q.0 k)
+        (statements-do ss j (j + 1) d r (n + made s) w.1 q.1 k)
 
   -- from its entry the walk does what the statement does
-  pub follows : (s : Stmt) (o d r n : ℕ) → Wired steps f.states s o d r n → Reads file f.variables s → (m : Machine) → W o m ≡ on_from d r (statement c s m)
+  pub follows : (s : Stmt) (o d r n : ℕ) → Wired steps c.states s o d r n → Reads file vars s → (m : Machine) → W o m ≡ on_from d r (statement c s m)
   follows s o d r n w q m = statement-does s o d r n w q (suc (limit c)) m (omega arith) (omega arith)

@@ -3,125 +3,93 @@
 use mathlib.Core.Path.{◌≡◌, refl, sym, ◌∙◌, ap}
 use Prim.Native.Nat.{ℕ, zero, suc, ◌≤◌, ◌<◌}
 use native.Mathlib.Omega.{arith}
-use mathlib.Core.Bool.{Bool, true, false, ◌||◌}
+use mathlib.Core.Bool.{true, false}
 use mathlib.Core.Option.{Option, none, some}
 use mathlib.Core.List.{List, [], ◌∷◌}
 use lib.ListN.{length, get_or, drop, replicate}
 use borrow.Author.Tests.{ltb-false, leb-false, eqb-true, not-false, lt-leb, eq-eqb}
-use Rattle.std.specs.Prelude.{if◌then◌else◌}
 use Rattle.rules.specs.declared.Call.{Call}
 use Rattle.rules.specs.declared.Fields.{Fields}
 use Rattle.rules.specs.declared.Machine.{Machine}
 use Rattle.rules.specs.declared.Outcome.{Outcome}
 use Rattle.rules.specs.declared.State.{State}
-use Rattle.rules.specs.Basics.{first_of, any, find, sum}
+use Rattle.rules.specs.Basics.{any, sum}
 use Rattle.rules.specs.Syntax.{Transition, Agreement}
 use Rattle.rules.specs.Accepting.{good, file_of, on_file}
 use Rattle.rules.specs.Values.{is_true}
 use Rattle.rules.specs.declared.Setting.{Setting}
-use Rattle.rules.specs.Running.{Run, Action}
+use Rattle.rules.specs.Running.{Run, going, returned, stopped}
 use Rattle.rules.specs.Calling.{refused_start, refused_call, total, opening_state, no_call, entered, End, ended, halted, leads, ends_in, state_after}
-use Rattle.rules.specs.Calling.{started, called, unfit, call_tests, start_setting, call_setting, start_by, call_by, run_initial}
+use Rattle.rules.specs.Calling.{started, called, unfit, call_tests, setting, start_setting, call_setting, start_by, call_by, run_initial}
 use Rattle.rules.specs.Calling.{transition_of, run_by, start_tree, call_tree, start, call, calls_from, follow, run_list}
 use Rattle.rules.specs.Judging.{is_completed}
 use Rattle.rules.specs.Demands.{All, none, more, NeverUnfit}
-use Rattle.totals.proofs.Trees.{GoodFields, GoodTransition, GoodTree, tree-good, zeros-false, clash}
-use Rattle.totals.proofs.Actions.{in_state, in_machine, Same, same, move_same, Ends, goes, returns, halts, Keeps}
-use Rattle.totals.proofs.Actions.{keeps-bind, guarded-keeps, statement-keeps}
+use Rattle.laws.proofs.Basics.{clash, both-false}
+use Rattle.laws.proofs.Each.{all-find}
+use Rattle.laws.proofs.Tests.{none-passed}
+use Rattle.runs.proofs.Closure.{either}
+use Rattle.runs.proofs.Ends.{Stepwise, Ends, statement-ending, transition-ending}
+use Rattle.grammar.proofs.Statements.{Target}
+use Rattle.grammar.proofs.Agreements.{Bounded, zeros-false}
+use Rattle.totals.proofs.Trees.{GoodTransition, GoodTree, tree-good}
+use Rattle.totals.proofs.Actions.{in_state, in_machine, Same, same, move_same, Like, like}
 use Rattle.totals.proofs.Refusing.{given-case}
 
 -- ---- what a run leads to
 
 -- t has what s had, and a state below S where s had one
 pub record Kept (f : Fields) (s t : State) : Type 0 where
-  pub holdings : Same f (in_state s) (in_state t)
+  pub holdings : Same f.variables f.accounts (in_state s) (in_state t)
   pub below : s.state < f.states → t.state < f.states
 
 kept : (f : Fields) (s : State) → Kept f s s
-kept f s = record { holdings = same f (in_state s); below = λ h. h }
+kept f s = record { holdings = same f.variables f.accounts (in_state s); below = λ h. h }
 
 -- where a run ends, the record has P
 data Leads (P : State → Type 0) : End → Type 0 where
   ends : {n : ℕ} {m : Machine} → P (state_after n m) → Leads P (ended n m)
   stops : {k : ℕ} {m : Machine} → Leads P (halted k m)
 
-ends-leads : (f : Fields) (s : State) (n : ℕ) → (s.state < f.states → n < f.states) → {r : Run (Unit {0})}
-    → Ends (λ m. Same f (in_state s) (in_machine m)) r → Leads (Kept f s) (ends_in n r)
-unfolding ends_in leads state_after
-ends-leads f s n b (goes h) = ends (record { holdings = h; below = b })
-ends-leads f s n b (returns h) = ends (record { holdings = h; below = b })
-ends-leads f s n b halts = stops
-
 -- coins that the sender has move to the own balance
 entered-same : (f : Fields) (s : State) (k : Call)
     → f.accounts ≤ length s.balances → k.sender < f.accounts → k.coins ≤ get_or s.balances k.sender 0
-    → Same f (in_state s) (in_machine (entered k s))
+    → Same f.variables f.accounts (in_state s) (in_machine (entered k s))
 unfolding entered
 entered-same f s k room q enough =
-    move_same f (in_state s) s.variables s.balances s.own (same f (in_state s)) k.sender _ _ q room (omega arith)
-
--- P of a transition that was found
-abbrev Found : (Transition → Type 0) → Option Transition → Type 0
-Found P none = Unit {0}
-Found P (some t) = P t
-
-find-good : {P : Transition → Type 0} (p : Transition → Bool) {ts : List Transition} → All P ts → Found P (find p ts)
-unfolding find
-find-good p none = tt
-find-good {P} p (more {x = t} {xs = ts} h a) = go (p t) (find-good p a)
-  where
-    go : (b : Bool) → Found P (find p ts) → Found P (if b then some t else find p ts)
-    go true r = h
-    go false r = r
+    move_same f.variables f.accounts (in_state s) s.variables s.balances s.own (same f.variables f.accounts (in_state s)) k.sender _ _ q room (omega arith)
 
 -- a run of an accepted agreement from s by k, whose sender has the coins
 module _ (a : Agreement) (g : GoodTree a) (s : State) (k : Call) (room : a.fields.accounts ≤ length s.balances) where
+  abbrev f : Fields
+  f = a.fields
+
   abbrev c : Setting
-  c = record { fields = a.fields; before = s.state; call = k }
+  c = setting f s.state k
 
-  few : a.fields.variables ≤ 256
-  few = let q = g.fields.few-variables in omega arith
+  abbrev Alike : (k : ℕ) (m w : Machine) → Type 0
+  Alike = Like c f.variables (in_state s)
 
-  module _ (q : k.sender < a.fields.accounts) (enough : k.coins ≤ get_or s.balances k.sender 0) where
-    action-leads : (n : ℕ) → (s.state < a.fields.states → n < a.fields.states) → {e : Action}
-        → Keeps c (in_state s) room few e → Leads (Kept a.fields s) (ends_in n (e (entered k s)))
-    action-leads n b h = ends-leads a.fields s n b (h.ends (entered k s) (entered-same a.fields s k room q enough))
+  alike : Stepwise c (Target f.variables) Alike
+  alike = like c f.variables (in_state s) room
 
-    initial-leads : Leads (Kept a.fields s) (run_initial a c (entered k s))
+  module _ (q : k.sender < f.accounts) (enough : k.coins ≤ get_or s.balances k.sender 0) where
+    ends-leads : (n : ℕ) → (s.state < f.states → n < f.states) → (r : Run (Unit {0}))
+        → Ends Alike 0 either (entered k s) r → Leads (Kept f s) (ends_in n r)
+    unfolding ends_in leads state_after
+    ends-leads n b (going u m) h = ends (record { holdings = h.1 (entered-same f s k room q enough); below = b })
+    ends-leads n b (returned m) h = ends (record { holdings = h.1 (entered-same f s k room q enough); below = b })
+    ends-leads n b (stopped i m) h = stops
+
+    initial-leads : Leads (Kept f s) (run_initial a c (entered k s))
     unfolding run_initial
-    initial-leads = action-leads a.fields.start (λ _. g.fields.start-state) (statement-keeps c (in_state s) room few a.initial g.initial)
+    initial-leads = ends-leads f.start (λ _. g.fields.start-state) _ (statement-ending alike a.initial g.initial (entered k s))
 
-    run-leads : (t : Option Transition) → Found (GoodTransition a.fields) t → Leads (Kept a.fields s) (run_by a t c (entered k s))
+    run-leads : (o : Option Transition) → ((t : Transition) → o ≡ some t → GoodTransition f t) → Leads (Kept f s) (run_by a o c (entered k s))
     unfolding run_by
-    run-leads none h = action-leads s.state (λ b. b) (statement-keeps c (in_state s) room few a.fallback g.fallback)
-    run-leads (some t) h =
-        action-leads t.to (λ _. h.to-state)
-        (keeps-bind c (in_state s) room few _ (guarded-keeps c (in_state s) room few t.guard)
-        λ _. statement-keeps c (in_state s) room few t.action h.sound)
+    run-leads none h = ends-leads s.state (λ b. b) _ (statement-ending alike a.fallback g.fallback (entered k s))
+    run-leads (some t) h = let g = h t refl in ends-leads t.to (λ _. g.to-state) _ (transition-ending alike t.guard t.action g.sound (entered k s))
 
 -- ---- starts and calls
-
--- no test holds
-abbrev Passed : List (Bool × ℕ) → Type 0
-Passed [] = Unit {0}
-Passed (t ∷ ts) = (t.0 ≡ false) × Passed ts
-
-none_passed : (ts : List (Bool × ℕ)) → first_of ts ≡ none → Passed ts
-unfolding first_of
-none_passed [] e = tt
-none_passed (t ∷ ts) e = go t.0 (none_passed ts) e
-  where
-    go : (b : Bool) → (first_of ts ≡ none → Passed ts) → (if b then some t.1 else first_of ts) ≡ none → (b ≡ false) × Passed ts
-    go true h e = let z : ◌≡◌ {A = ℕ} 0 1 = cc in absurd (omega arith)
-    go false h e = (refl, h e)
-
--- a call's tests: its sender is an account, the record is fit, and the sender has the coins
-tested : (f : Fields) (s : State) (k : Call) (b : Bool) → first_of (call_tests f s k [] b) ≡ none
-    → (k.sender < f.accounts) × (unfit f s ≡ false) × (k.coins ≤ get_or s.balances k.sender 0)
-unfolding call_tests
-tested f s k b e =
-    let p = none_passed (call_tests f s k [] b) e in
-    (leb-false f.accounts k.sender p.0, p.1.0, ltb-false (get_or s.balances k.sender 0) k.coins p.1.1.0)
 
 called-kept : (f : Fields) (s : State) {e : End} → Leads (Kept f s) e → Kept f s (called s e).state
 unfolding called refused_call
@@ -130,11 +98,11 @@ called-kept f s stops = kept f s
 
 pub call-tree-kept : (a : Agreement) → GoodTree a → (s : State) (k : Call) → a.fields.accounts ≤ length s.balances
     → Kept a.fields s (call_tree a s k).state
-unfolding call_tree call_by call_setting refused_call transition_of
+unfolding call_tree call_tests call_by call_setting refused_call transition_of
 call-tree-kept a g s k room =
     given-case (λ (o : Outcome). Kept a.fields s o.state) _ (λ n. kept a.fields s) λ _ e.
-    let q = tested a.fields s k _ e in
-    called-kept a.fields s (run-leads a g s k room q.0 q.2 _ (find-good _ g.transitions))
+    let p = none-passed _ e in
+    called-kept a.fields s (run-leads a g s k room (leb-false _ _ p.0) (ltb-false _ _ p.1.1.0) _ (λ t. all-find _ g.transitions))
 
 started-kept : (f : Fields) (s : State) {e : End} → Leads (Kept f s) e → is_completed (started e).answer ≡ true
     → Kept f s (started e).state
@@ -167,16 +135,12 @@ unfolding unfit
 fit-not-unfit f s h =
     rw (lt-leb f.states s.state h.below, h.unused-variables, h.unused-balances, eq-eqb (total s) (sum f.opening) h.total-same)
 
-neither : (a b : Bool) → (a || b) ≡ false → (a ≡ false) × (b ≡ false)
-neither true b e = clash e
-neither false b e = (refl, e)
-
 pub not-unfit-fit : (f : Fields) (s : State) → length s.variables ≡ 16 → length s.balances ≡ 8 → unfit f s ≡ false → Fit f s
 unfolding unfit
 not-unfit-fit f s v b e =
-    let p = neither _ _ e in
-    let q = neither _ _ p.0 in
-    let r = neither _ _ q.0 in
+    let p = both-false _ _ e in
+    let q = both-false _ _ p.0 in
+    let r = both-false _ _ q.0 in
     record {
       sixteen = v;
       eight = b;
@@ -204,7 +168,7 @@ drop-zeros zero m = zeros-false m
 drop-zeros (suc n) zero = refl
 drop-zeros (suc n) (suc m) = drop-zeros n m
 
-opening-fit : (f : Fields) → GoodFields f → Fit f (opening_state f)
+opening-fit : (f : Fields) → Bounded f → Fit f (opening_state f)
 unfolding opening_state total
 opening-fit f g =
     record {

@@ -2,12 +2,11 @@
 -- refused expansion or verdict leaves the lent words as they were (words-unchanged).
 use mathlib.Core.Path.{◌≡◌, refl}
 use Prim.Native.Nat.{ℕ}
-use mathlib.Core.Bool.{Bool, true, false}
+use mathlib.Core.Bool.{Bool, false}
 use mathlib.Core.Option.{Option, none, some}
 use mathlib.Core.List.{List}
-use lib.ListN.{length, get_elem?}
-use native.Mathlib.Omega.{arith}
-use Rattle.std.specs.Prelude.{if◌then◌else◌, Ok, Err}
+use lib.ListN.{get_elem?}
+use Rattle.std.specs.Prelude.{Err}
 use Rattle.rules.specs.declared.Call.{Call}
 use Rattle.rules.specs.Accepting.{Counted}
 use Rattle.rules.specs.declared.Judged.{Judged}
@@ -19,15 +18,14 @@ use Rattle.rules.specs.declared.Refusal.{Refusal}
 use Rattle.rules.specs.declared.State.{State}
 use Rattle.rules.specs.Basics.{first_of, given}
 use Rattle.rules.specs.Syntax.{Agreement}
-use Rattle.rules.specs.Accepting.{refusal, File, bad, good, file_of, on_file, Lent, lent, too_few, written, expand_file}
+use Rattle.rules.specs.Accepting.{refusal, File, bad, good, file_of, on_file, Lent, too_few, expand_file}
 use Rattle.rules.specs.declared.Setting.{Setting}
 use Rattle.rules.specs.Calling.{zero_state, refused_start, refused_call, End, ended, halted, started, called, start_by, call_by}
 use Rattle.rules.specs.Calling.{start_tree, call_tree, start, call}
 use Rattle.rules.specs.Stepping.{start_steps, call_steps, start_expanded, call_expanded}
-use Rattle.rules.specs.Expanding.{expansion}
 use Rattle.rules.specs.Judging.{is_completed, Ruling, broken, held, spent, judged, judged_of, refused_verdict, verdict_tests, judge, verdict}
 use Rattle.rules.specs.Demands.{RefusedUnchanged, WordsUnchanged}
-use Rattle.totals.proofs.Trees.{clash}
+use Rattle.laws.proofs.Basics.{clash, if-cases}
 
 -- an outcome that is refused hands back s
 abbrev pub Restores : State → Outcome → Type 0
@@ -90,20 +88,15 @@ Leaves words Says o = Says o.answer → o.words ≡ words
 
 judged-not-refused : (v : Ruling) (r : Refusal) → (judged_of v).verdict ≡ verdicts.Refused r → ⊥
 unfolding judged_of judged
-judged-not-refused (broken n l) r h = let z : ◌≡◌ {A = ℕ} 0 1 = cc in omega arith
-judged-not-refused (held n) r h = let z : ◌≡◌ {A = ℕ} 0 1 = cc in omega arith
-judged-not-refused (spent n) r h = let z : ◌≡◌ {A = ℕ} 0 1 = cc in omega arith
-
-expand-leaves : (a : Agreement) (words : List ℕ) (r : Refusal) (b : Bool)
-    → Leaves words (λ (c : Counted). c ≡ Err r)
-    (if b then lent (Err (refusal 11)) words else lent (Ok (length (expansion a))) (written a words))
-expand-leaves a words r true h = refl
-expand-leaves a words r false h = let z : ◌≡◌ {A = ℕ} 0 1 = cc in absurd (omega arith)
+judged-not-refused (broken n l) r h = cc
+judged-not-refused (held n) r h = cc
+judged-not-refused (spent n) r h = cc
 
 pub words-unchanged : WordsUnchanged
 unfolding expand_file verdict judge refused_verdict
 words-unchanged file words i r = (
-  file-case (Leaves words (λ (c : Counted). c ≡ Err r)) (file_of file) (λ _ _. refl) (λ a _. expand-leaves a words r (too_few a words)),
+  file-case (Leaves words (λ (c : Counted). c ≡ Err r)) (file_of file) (λ _ _. refl) λ a _.
+      if-cases (Leaves words (λ (c : Counted). c ≡ Err r)) (too_few a words) (λ _ _. refl) (λ _ h. absurd cc),
   file-case (Leaves words Refuses) (file_of file) (λ _ _. refl) λ a _.
       given-case (Leaves words Refuses) (get_elem? a.rules i)
       (λ q. given-case (Leaves words Refuses) (first_of (verdict_tests a words)) (λ _ _. refl) (λ _ _ h. absurd (judged-not-refused _ r h)))

@@ -19,6 +19,7 @@ use Rattle.rules.specs.Lists.{At, here, there}
 use Rattle.rules.specs.Judging.{Ruling, broken, held, spent, First, at, nowhere, first, first_from, ruled_by, ruled_on, ruling}
 use Rattle.rules.specs.Judging.{breaking, lists_for}
 use Rattle.rules.specs.Demands.{Right, VerdictsExact, VerdictsByCase}
+use Rattle.laws.proofs.Basics.{clash}
 use Rattle.rules.proofs.Firsts.{one_later, first-cons}
 
 -- places are 1 and up to the number of lists, and a place has one list
@@ -46,7 +47,7 @@ at-cons P h t m k here = h
 at-cons P h t m k (there {n = n} a) = t n k a
 
 not-both : {b : Bool} → b ≡ true → b ≡ false → ⊥
-not-both e f = let z : ◌≡◌ {A = Bool} true false = sym e ∙ f in let w : ◌≡◌ {A = ℕ} 0 1 = cc in omega arith
+not-both e f = clash (sym e ∙ f)
 
 -- a list that does not break the rule, put before the others, moves each number by one
 one_more : Ruling → Ruling

@@ -1,18 +1,17 @@
 -- The lists in the order in which they are tried: each list of call rows within the depth stands there once, and nothing else
--- does; the shorter come first, those of one length in dictionary order (places-in-order). Of n rows out of k there are k ^ n
--- (count).
+-- does; the shorter come first, those of one length in dictionary order (places-in-order).
 use mathlib.Core.Path.{◌≡◌, refl, sym, ◌∙◌, ap, subst}
-use Prim.Native.Nat.{ℕ, zero, suc, ◌+◌, ◌*◌, ◌^◌, ◌≤◌, ◌<◌}
+use Prim.Native.Nat.{ℕ, zero, suc, ◌+◌, ◌≤◌, ◌<◌}
 use native.Mathlib.Decide.{dec_lt}
-use native.Mathlib.Nat.{pow-zero, pow-succ', suc-mul, zero-mul}
 use native.Mathlib.Omega.{arith}
 use mathlib.Core.List.{List, [], ◌∷◌, ◌++◌, map}
 use mathlib.Core.Logic.{inl, inr}
-use lib.ListN.{length, length-append, length-map}
+use lib.ListN.{length}
 use Rattle.rules.specs.Basics.{each}
 use Rattle.rules.specs.Lists.{lists_of, lists_to, At, here, there, Positions, Within, Dictionary, Before}
 use Rattle.rules.specs.Lists.{first, later}
 use Rattle.rules.specs.Demands.{All, none, more, PlacesInOrder}
+use Rattle.laws.proofs.Each.{weaken, all_append}
 use Rattle.verdicts.proofs.Exact.{at-pos}
 
 -- ---- what holds of each list
@@ -22,19 +21,11 @@ all-at none x = elim x [ ]
 all-at (more h a) here = h
 all-at (more h a) (there b) = all-at a b
 
-pub weaken : {A : Type 0} {P Q : A → Type 0} {xs : List A} → ((x : A) → P x → Q x) → All P xs → All Q xs
-weaken f none = none
-weaken f (more {x = x} h a) = more (f x h) (weaken f a)
-
 all_both : {P Q W : List ℕ → Type 0} {ls : List (List ℕ)} → ((l : List ℕ) → P l → W l → Q l) → All P ls → All W ls → All Q ls
 all_both f none none = none
 all_both f (more {x = l} h a) (more g b) = more (f l h g) (all_both f a b)
 
 module _ {P : List ℕ → Type 0} where
-  all-++ : {ls ms : List (List ℕ)} → All P ls → All P ms → All P (ls ++ ms)
-  all-++ none b = b
-  all-++ (more h a) b = more h (all-++ a b)
-
   all_map : {Q : List ℕ → Type 0} {ls : List (List ℕ)} (f : List ℕ → List ℕ) → ((l : List ℕ) → Q l → P (f l)) → All Q ls → All P (map f ls)
   all_map f g none = none
   all_map f g (more {x = l} h a) = more (g l h) (all_map f g a)
@@ -42,7 +33,7 @@ module _ {P : List ℕ → Type 0} where
   all-each : (F : ℕ → List (List ℕ)) (i n : ℕ) → ((j : ℕ) → i ≤ j → j < i + n → All P (F j)) → All P (each F i n)
   unfolding each
   all-each F i zero g = none
-  all-each F i (suc n) g = all-++ (g i (omega arith) (omega arith)) (all-each F (suc i) n (λ j a b. g j (omega arith) (omega arith)))
+  all-each F i (suc n) g = all_append _ _ (g i (omega arith) (omega arith)) (all-each F (suc i) n (λ j a b. g j (omega arith) (omega arith)))
 
 -- ---- what stands there is a list of call rows within the depth
 
@@ -59,9 +50,6 @@ all-positions k (suc n) =
 pub all-within : (k depth : ℕ) → All (Within k depth) (lists_to k depth)
 unfolding lists_to
 all-within k depth = all-each (lists_of k) 0 (suc depth) (λ j a b. weaken (λ l h. (j, omega arith, h)) (all-positions k j))
-
-pub all_short : (k depth : ℕ) → All (λ l. length l ≤ depth) (lists_to k depth)
-all_short k depth = weaken (λ l h. let e = positions-length h.2 in omega arith) (all-within k depth)
 
 -- ---- each such list stands there
 
@@ -112,7 +100,7 @@ data Sorted (Q : List ℕ → List ℕ → Type 0) : List (List ℕ) → Type 0 
 module _ {Q : List ℕ → List ℕ → Type 0} where
   sorted-++ : {ls ms : List (List ℕ)} → Sorted Q ls → Sorted Q ms → All (λ l. All (Q l) ms) ls → Sorted Q (ls ++ ms)
   sorted-++ nil t none = t
-  sorted-++ (next h s) t (more c cs) = next (all-++ h c) (sorted-++ s t cs)
+  sorted-++ (next h s) t (more c cs) = next (all_append _ _ h c) (sorted-++ s t cs)
 
   sorted-map : {W : List ℕ → List ℕ → Type 0} {ls : List (List ℕ)} (f : List ℕ → List ℕ)
       → ((l k : List ℕ) → W l k → Q (f l) (f k)) → Sorted W ls → Sorted Q (map f ls)
@@ -194,20 +182,3 @@ module _ (k depth : ℕ) where
 pub places-in-order : PlacesInOrder
 places-in-order k depth =
     (λ n l a. all-at (all-within k depth) a, λ l w. stands-within k depth w, once k depth, ordered k depth)
-
--- ---- how many there are
-
-length-each : (F : ℕ → List (List ℕ)) (c : ℕ) → ((j : ℕ) → length (F j) ≡ c) → (i n : ℕ) → length (each F i n) ≡ n * c
-unfolding each
-length-each F c h i zero = sym (zero-mul c)
-length-each F c h i (suc n) =
-    let q = length-each F c h (suc i) n in
-    let z = h i in
-    length-append (F i) (each F (suc i) n) ∙ rw (suc-mul) (omega arith)
-
-pub count : (k n : ℕ) → length (lists_of k n) ≡ k ^ n
-unfolding lists_of
-count k zero = sym (pow-zero k)
-count k (suc n) =
-    length-each (λ j. map (λ l. j ∷ l) (lists_of k n)) (k ^ n) (λ j. length-map (lists_of k n) (λ l. j ∷ l) ∙ count k n) 0 k
-    ∙ sym (pow-succ' k n)
