@@ -1,5 +1,4 @@
 -- Laws of fields in a row: a reader of fields as a row of answers, then what was read.
--- Assumes nothing.
 use Rattle.std.specs.Prelude.{if◌then◌else◌}
 use Prim.Native.Nat.{ℕ, zero, suc, ◌+◌, ◌-◌, ◌*◌, ◌≤◌, ◌<◌}
 use mathlib.Core.Path.{◌≡◌, refl, sym, ap, ap₂, ◌∙◌}
@@ -10,21 +9,24 @@ use lib.Dec.{eqb, ltb, leb}
 use borrow.Author.Tests.{ltb-true, ltb-false}
 use lib.ListN.{length, get_or, take, drop, length-drop}
 use lib.Seq.{drop-cons, drop-drop}
+use Rattle.std.proofs.lemmas.List.{get_or-drop}
 use Rattle.rules.specs.declared.Fields.{Fields}
 use Rattle.rules.specs.Basics.{has, number, padded}
-use Rattle.rules.specs.Reading.{Reading, refused, read, after, pure, refuse, in_range, field, fields, zero_byte, fields_body}
-use Rattle.std.specs.Prelude.{Some, Result, Ok, Err}
-use Rattle.std.specs.Ordering.{nat_cmp, partial_le}
+use Rattle.rules.specs.Reading.{Reading, refused, read, after, refuse, in_range, field, fields, zero_byte, fields_body}
+use Rattle.std.specs.Prelude.{cond, Some, Result, Ok, Err}
+use Rattle.std.specs.Ordering.{nat_cmp, partial_le, partial_lt}
 use borrow.Author.Rules.{rules}
 use Rattle.std.specs.Result.{result_and}
 use Rattle.records.specs.declared.fault.Fault.{Fault}
 use Rattle.records.specs.declared.answers.Checked.{Checked}
 use Rattle.records.specs.Checking.{fault_at}
 use Rattle.records.specs.Checking.{Answer, outcome, found, refused_at, no_steps}
-use Rattle.records.proofs.Parts.{has_all, has-few, has-length}
-use Rattle.records.proofs.Readers.{unread, then-pure}
-use Rattle.records.proofs.Inversion.{then-read}
-use Rattle.files.specs.Answers.{value_at, field_answer}
+use Rattle.grammar.proofs.Bytes.{has_all, has-length}
+use Rattle.grammar.proofs.Keeping.{embedded}
+use Rattle.grammar.proofs.Agreements.{in-body, from-body, fields-keep}
+use Rattle.records.proofs.Parts.{has-few}
+use Rattle.records.proofs.Readers.{then-pure}
+use Rattle.files.specs.FieldAnswers.{value_at, field_answer}
 
 -- ---- answers in a row
 
@@ -42,11 +44,6 @@ pub after-tested : {A B : Type 0} (c : Result (Unit {0}) Fault) (q : Reading A) 
 unfolding tested
 after-tested (Ok u) q f = refl
 after-tested (Err e) q f = refl
-
-pub tested-read : {A : Type 0} (c : Result (Unit {0}) Fault) (q : Reading A) {a : A} {m : ℕ} {l : List ℕ} → tested c q ≡ read a m l → q ≡ read a m l
-unfolding tested
-tested-read (Ok u) q h = h
-tested-read (Err e) q h = absurd (unread h)
 
 pub and-twice : {A : Type 0} (c d : Result (Unit {0}) Fault) (e : Result A Fault) → result_and (result_and c d) e ≡ result_and c (result_and d e)
 and-twice (Ok u) d e = refl
@@ -88,8 +85,9 @@ byte-is i b = go (ltb i (length b)) refl
     go false e = let h = ltb-false i (length b) e in past i b h ∙ value-short 1 i b (omega arith) (omega arith)
 
 -- what `contains` answers at a..=b
-pub within : (x a b : ℕ) → (partial_le (λ x y. Some (nat_cmp x y)) a x && partial_le (λ x y. Some (nat_cmp x y)) x b) ≡ (leb a x && leb x b)
-within x a b = search rules
+pub within : {a b s e : ℕ} {spent : Bool} (x : ℕ) → s ≡ a → e ≡ b → spent ≡ false
+    → (partial_le (λ x y. Some (nat_cmp x y)) s x && cond spent (partial_lt (λ x y. Some (nat_cmp x y)) x e) (partial_le (λ x y. Some (nat_cmp x y)) x e)) ≡ (leb a x && leb x b)
+within x start end whole = rw (start, end, whole) (search rules)
 
 -- ---- one field
 
@@ -101,106 +99,67 @@ module _ (n i start at : ℕ) (body : List ℕ) where
   abbrev value : ℕ
   value = number (take n (drop i body))
 
+  -- what is read of it, what is answered and its value, where it is there and where it is not
+  field-cases : (P : Reading ℕ → (Bool → Result (Unit {0}) Fault) → ℕ → Type 0)
+      → (has n (drop i body) ≡ true → P (read value (at + i + n) (drop n (drop i body))) (λ good. if good then Ok tt else Err (fault_at 4 start)) value)
+      → P (refused 2 (at + i)) (λ _. Err (fault_at 2 (at + i))) 0
+      → P (field n start (at + i) (drop i body)) (field_answer n i start at body) (value_at n i body)
+  unfolding field field_answer value_at
+  field-cases P there short = go (has n (drop i body)) refl
+    where
+      go : (b : Bool) → has n (drop i body) ≡ b
+          → P (if b then read value (at + i + n) (drop n (drop i body)) else refused 2 (at + i))
+          (λ good. if b then (if good then Ok tt else Err (fault_at 4 start)) else Err (fault_at 2 (at + i))) (if b then value else 0)
+      go true e = there e
+      go false e = short
+
+  ends : i ≤ length body → has n (drop i body) ≡ true → i + n ≤ length body
+  ends h e = omega (arith, has-length n (drop i body) e, length-drop i body)
+
   module _ {A : Type 0} where
-    next : (f : Then A) → f value (at + i + n) (drop n (drop i body)) ≡ f value (at + (i + n)) (drop (i + n) body)
-    next f = ap₂ (f value) (omega arith) (drop-drop n i body)
+    -- what goes on from its value
+    abbrev next : Then A → Reading A → Type 0
+    next f r = i + n ≤ length body → f (value_at n i body) (at + (i + n)) (drop (i + n) body) ≡ r
+
+    from-value : (f : Then A) → f value (at + i + n) (drop n (drop i body)) ≡ f value (at + (i + n)) (drop (i + n) body)
+    from-value f = ap₂ (f value) (omega arith) (drop-drop n i body)
 
     -- a field that passes a test, and what comes after it, where the field is there
-    pub field_step :
-        i ≤ length body → (test : ℕ → Bool) (f : Then A) {r : Reading A} →
-        (i + n ≤ length body → f (value_at n i body) (at + (i + n)) (drop (i + n) body) ≡ r) →
-        after (field n start (at + i) (drop i body)) (λ x m l. after (in_range (test x) start m l) (λ _. f x))
+    pub field_step : i ≤ length body → (test : ℕ → Bool) (f : Then A) {r : Reading A} → next f r
+        → after (field n start (at + i) (drop i body)) (λ x m l. after (in_range (test x) start m l) (λ _. f x))
         ≡ tested (field_answer n i start at body (test (value_at n i body))) r
-    unfolding field in_range refuse field_answer value_at tested
-    field_step h test f {r} k = go (has n (drop i body)) refl k
+    unfolding in_range refuse tested
+    field_step h test f {r} =
+        field-cases
+        (λ q a v. (i + n ≤ length body → f v (at + (i + n)) (drop (i + n) body) ≡ r) → after q (λ x m l. after (in_range (test x) start m l) (λ _. f x)) ≡ tested (a (test v)) r)
+        (λ e k. ranged (test value) (from-value f ∙ k (ends h e))) (λ k. refl)
       where
-        ranged :
-            (t : Bool) → f value (at + (i + n)) (drop (i + n) body) ≡ r →
-            after (in_range t start (at + i + n) (drop n (drop i body))) (λ _. f value) ≡ tested (if t then Ok tt else Err (fault_at 4 start)) r
-        ranged true e = next f ∙ e
+        ranged : (t : Bool) → f value (at + i + n) (drop n (drop i body)) ≡ r
+            → after (in_range t start (at + i + n) (drop n (drop i body))) (λ _. f value) ≡ tested (if t then Ok tt else Err (fault_at 4 start)) r
+        ranged true e = e
         ranged false e = refl
 
-        go :
-            (b : Bool) → has n (drop i body) ≡ b →
-            (i + n ≤ length body → f (if b then value else 0) (at + (i + n)) (drop (i + n) body) ≡ r) →
-            after (if b then read value (at + i + n) (drop n (drop i body)) else refused 2 (at + i)) (λ x m l. after (in_range (test x) start m l) (λ _. f x))
-            ≡ tested (if b then (if test (if b then value else 0) then Ok tt else Err (fault_at 4 start)) else Err (fault_at 2 (at + i))) r
-        go true e k = ranged (test value) (k (omega (arith, has-length n (drop i body) e, length-drop i body)))
-        go false e k = refl
-
     -- a field of any value
-    pub plain_step :
-        i ≤ length body → (f : Then A) {r : Reading A} →
-        (i + n ≤ length body → f (value_at n i body) (at + (i + n)) (drop (i + n) body) ≡ r) →
-        after (field n start (at + i) (drop i body)) f ≡ tested (field_answer n i start at body true) r
-    unfolding field field_answer value_at tested
-    plain_step h f {r} k = go (has n (drop i body)) refl k
-      where
-        go :
-            (b : Bool) → has n (drop i body) ≡ b →
-            (i + n ≤ length body → f (if b then value else 0) (at + (i + n)) (drop (i + n) body) ≡ r) →
-            after (if b then read value (at + i + n) (drop n (drop i body)) else refused 2 (at + i)) f
-            ≡ tested (if b then Ok tt else Err (fault_at 2 (at + i))) r
-        go true e k = next f ∙ k (omega (arith, has-length n (drop i body) e, length-drop i body))
-        go false e k = refl
+    pub plain_step : i ≤ length body → (f : Then A) {r : Reading A} → next f r
+        → after (field n start (at + i) (drop i body)) f ≡ tested (field_answer n i start at body true) r
+    unfolding tested
+    plain_step h f {r} =
+        field-cases (λ q a v. (i + n ≤ length body → f v (at + (i + n)) (drop (i + n) body) ≡ r) → after q f ≡ tested (a true) r)
+        (λ e k. from-value f ∙ k (ends h e)) (λ k. refl)
 
-    field_there : 0 < n → (good : Bool) (q : Reading A) {a : A} {m : ℕ} {l : List ℕ} → tested (field_answer n i start at body good) q ≡ read a m l → i + n ≤ length body
-    unfolding field_answer tested
-    field_there p good q {a} {m} {l} h = go (has n (drop i body)) refl h
-      where
-        go :
-            (t : Bool) → has n (drop i body) ≡ t →
-            tested (if t then (if good then Ok tt else Err (fault_at 4 start)) else Err (fault_at 2 (at + i))) q ≡ read a m l →
-            i + n ≤ length body
-        go true e h = omega (arith, has-length n (drop i body) e, length-drop i body)
-        go false e h = absurd (unread h)
-
-    -- a field that was read is there
-    pub field_fits : (f : Then A) {a : A} {m : ℕ} {l : List ℕ} → after (field n start (at + i) (drop i body)) f ≡ read a m l → n ≤ length (drop i body)
-    unfolding field
-    field_fits f {a} {m} {l} h = go (has n (drop i body)) refl h
-      where
-        go : (b : Bool) → has n (drop i body) ≡ b → after (if b then read value (at + i + n) (drop n (drop i body)) else refused 2 (at + i)) f ≡ read a m l → n ≤ length (drop i body)
-        go true e h = has-length n (drop i body) e
-        go false e h = absurd (unread h)
-
--- where the last of a row of fields was found
-pub found-there :
-    (n i start at : ℕ) (body : List ℕ) (good : Bool) → 0 < n →
-    (c : Result (Unit {0}) Fault) {d : Result (Unit {0}) Fault} {u : Unit {0}} →
-    d ≡ field_answer n i start at body good → Ok u ≡ result_and c d → i + n ≤ length body
-unfolding field_answer
-found-there n i start at body good p (Err e) x h = cc
-found-there n i start at body good p (Ok v) {d} {u} x h = go (has n (drop i body)) refl (h ∙ x)
-  where
-    go :
-        (t : Bool) → has n (drop i body) ≡ t →
-        Ok u ≡ (if t then (if good then Ok tt else Err (fault_at 4 start)) else Err (fault_at 2 (at + i))) → i + n ≤ length body
-    go true e h = omega (arith, has-length n (drop i body) e, length-drop i body)
-    go false e h = cc
-
--- what is answered of a field, by what is read of it
-module _ (n i start at : ℕ) (body : List ℕ) where
+  -- what is answered of a field, by what is read of it
   pub field-refused : (good : Bool) {e : Fault} → Err e ≡ outcome no_steps (field n start (at + i) (drop i body)) → Err e ≡ field_answer n i start at body good
-  unfolding field field_answer
-  field-refused good {e} h = go (has n (drop i body)) h
-    where
-      go :
-          (b : Bool) → Err e ≡ outcome no_steps (if b then read (number (take n (drop i body))) (at + i + n) (drop n (drop i body)) else refused 2 (at + i)) →
-          Err e ≡ (if b then (if good then Ok (tt {0}) else Err (fault_at 4 start)) else Err (fault_at 2 (at + i)))
-      go true h = cc
-      go false h = let z : e ≡ fault_at 2 (at + i) = cc in rw z
+  field-refused good {e} = field-cases (λ q a _. Err e ≡ outcome no_steps q → Err e ≡ a good) (λ _ h. cc) (λ h. cc)
 
   pub field-present : {c : Checked} → Ok c ≡ outcome no_steps (field n start (at + i) (drop i body)) → has n (drop i body) ≡ true
-  unfolding field
-  field-present {c} h = go (has n (drop i body)) refl h
-    where
-      go :
-          (b : Bool) → has n (drop i body) ≡ b →
-          Ok c ≡ outcome no_steps (if b then read (number (take n (drop i body))) (at + i + n) (drop n (drop i body)) else refused 2 (at + i)) →
-          has n (drop i body) ≡ true
-      go true e h = e
-      go false e h = cc
+  field-present {c} = field-cases (λ q _ _. Ok c ≡ outcome no_steps q → has n (drop i body) ≡ true) (λ e _. e) (λ h. cc)
+
+  -- where the last of a row of fields was found
+  pub found-there : (good : Bool) → 0 < n → (c : Result (Unit {0}) Fault) {d : Result (Unit {0}) Fault} {u : Unit {0}}
+      → d ≡ field_answer n i start at body good → Ok u ≡ result_and c d → i + n ≤ length body
+  found-there good p (Err e) x h = cc
+  found-there good p (Ok v) {d} {u} x h =
+      field-cases (λ _ a _. Ok u ≡ a good → i + n ≤ length body) (λ e _. omega (arith, has-length n (drop i body) e, length-drop i body)) (λ h. cc) (h ∙ x)
 
 -- a zero byte
 pub zero-step :
@@ -215,10 +174,6 @@ zero-step {A} i start at body h f k = go (field 1 start (at + i) (drop i body)) 
     go (read z m l) = refl
 
 -- ---- fields of four bytes
-
-unfoldable pub words_at : (k i : ℕ) → List ℕ → List ℕ
-words_at zero i body = []
-words_at (suc k) i body = value_at 4 i body ∷ words_at k (i + 4) body
 
 module _ (start at : ℕ) (body : List ℕ) where
   -- the answer on k of them from i on
@@ -256,33 +211,7 @@ module _ (start at : ℕ) (body : List ℕ) where
   words-cut (suc j) k i p l h =
       words-next k (k - 1) i (omega arith) (omega arith) ∙ words-cut j (k - 1) (i + 4) (omega arith) (omega arith) (omega arith) ∙ ap (refused_at 2) (omega arith)
 
-  words-read : (k i : ℕ) {xs : List ℕ} {m : ℕ} {l : List ℕ} → i ≤ length body → fields k 4 start (at + i) (drop i body) ≡ read xs m l → xs ≡ words_at k i body
-  unfolding fields words_at
-  words-read zero i {xs} b h = let z : [] ≡ xs = cc in sym z
-  words-read (suc k) i {xs} b h =
-      let f : Then (List ℕ) = λ x m l. after (fields k 4 start m l) (λ xs m l. read (x ∷ xs) m l) in
-      let p = tested-read (field_answer 4 i start at body true) _ (sym (plain_step 4 i start at body b f (λ _. refl)) ∙ h) in
-      let w = field_fits 4 i start at body f h in
-      let q = then-read (fields k 4) (λ xs. pure (value_at 4 i body ∷ xs)) start (at + (i + 4)) (drop (i + 4) body) p in
-      let n = q.next in
-      let z : (value_at 4 i body ∷ q.value) ≡ xs = cc in
-      sym z ∙ ap (λ (ys : List ℕ). value_at 4 i body ∷ ys) (words-read k (i + 4) (omega (arith, length-drop i body)) q.here)
-
 -- ---- the agreement's fields
-
--- what they are where they are read
-abbrev pub fields_at : List ℕ → Fields
-fields_at b =
-    record {
-      states = value_at 1 0 b;
-      variables = value_at 1 1 b;
-      accounts = value_at 1 2 b;
-      start = value_at 1 3 b;
-      depth = value_at 1 4 b;
-      limit = value_at 2 6 b;
-      bound = value_at 4 8 b;
-      opening = padded 8 (words_at (value_at 1 2 b) 12 b);
-    }
 
 module _ (start at : ℕ) (b : List ℕ) where
   -- the answers on the fields before the balances
@@ -353,11 +282,10 @@ module _ (start at : ℕ) (b : List ℕ) where
       let q : result_and fields_answers (words_answer start at b (byte 2) 12) ≡ heads result_and (words_answer start at b (byte 2) 12) = simp and-twice in
       p ∙ ap (heads result_and) (then-pure no_steps made (fields (byte 2) 4 start (at + 12) (drop 12 b))) ∙ sym q
 
-  pub fields-are : {f : Fields} {m : ℕ} {l : List ℕ} → fields_body start at b ≡ read f m l → f ≡ fields_at b
-  unfolding balances
-  fields-are {f} h =
-      let p = tested-read _ _ (tested-read _ _ (tested-read _ _ (tested-read _ _ (tested-read _ _ (tested-read _ _ (tested-read _ _ (sym fields-row ∙ h))))))) in
-      let q = then-read (fields (byte 2) 4) (λ xs. pure (made xs)) start (at + 12) (drop 12 b) (tested-read _ _ p) in
-      let n = q.next in
-      let z : made q.value ≡ f = cc in
-      sym z ∙ ap made (words-read start at b (byte 2) 12 (field_there 4 8 start at b (omega arith) _ _ p) q.here)
+-- how many states, variables and accounts those have that were read
+pub fields-are : (start at : ℕ) (b : List ℕ) {f : Fields} {m : ℕ} {l : List ℕ} → fields_body start at b ≡ read f m l
+    → (f.states ≡ value_at 1 0 b) × (f.variables ≡ value_at 1 1 b) × (f.accounts ≡ value_at 1 2 b)
+fields-are start at b h =
+    let x = embedded (λ file end. from-body (fields-keep file (λ k. at + (k - 4)) (in-body at) start end)) h in
+    let byte : (i : ℕ) → get_or x.file (at + i) 0 ≡ value_at 1 i b = λ i. sym (get_or-drop at x.file i 0) ∙ ap (λ (s : List ℕ). get_or s i 0) x.here ∙ byte-is i b in
+    (ap (λ (f : Fields). f.states) x.has.is ∙ byte 0, ap (λ (f : Fields). f.variables) x.has.is ∙ byte 1, ap (λ (f : Fields). f.accounts) x.has.is ∙ byte 2)

@@ -1,5 +1,4 @@
 -- Laws of a group: the whole from what is left of it, and its members read for their steps.
--- Assumes nothing.
 use Rattle.std.specs.Prelude.{if◌then◌else◌}
 use Prim.Native.Nat.{ℕ, zero, suc, ◌+◌, ◌-◌, ◌≤◌, ◌<◌}
 use mathlib.Core.Path.{◌≡◌, refl, sym, ap, ap₂, ◌∙◌}
@@ -13,31 +12,18 @@ use Rattle.rules.specs.Reading.{Reading, refused, read, Reader, after, ◌>>=◌
 use Rattle.std.specs.Prelude.{Ok, Err}
 use Rattle.records.specs.declared.fault.Fault.{Fault}
 use Rattle.records.specs.declared.answers.Checked.{Checked}
-use Rattle.records.specs.declared.part.Part.{Part}
-use Rattle.records.specs.declared.part.Record.{Record}
-use Rattle.records.specs.Checking.{Answer, Opens, of_part, outcome, found, refused_at, no_steps, ended, added, from}
-use Rattle.records.proofs.Parts.{from-drop, empty, not-empty}
-use Rattle.records.proofs.Readers.{Steady, child-read, child-ends, child-short, child-refuses, child-opened, refused-never, came, gone, added_twice}
+use Rattle.records.specs.Checking.{Answer, outcome, found, refused_at, no_steps, added, from}
+use Rattle.grammar.proofs.Bytes.{part-all}
+use Rattle.grammar.proofs.Keeping.{embedded, keeps-record}
+use Rattle.records.proofs.Parts.{empty, not-empty}
+use Rattle.records.proofs.Readers.{Steady, Nested, child-short, child-refuses, refused-never, came, gone, added_twice}
 use Rattle.files.specs.Members.{itself, is_next, another}
 
 -- ---- one member
 
-module _ (body : Reader ℕ) (start at : ℕ) (s : List ℕ) where
-  pub another-short : (left : ℕ) → whole s ≡ false → another left body start at s ≡ refused 2 at
-  unfolding another
-  another-short zero h = child-short _ _ _ _ h
-  another-short (suc left) h = child-short _ _ _ _ h
-
-  pub another-many : (left : ℕ) → left ≡ 0 → whole s ≡ true → another left body start at s ≡ refused 4 at
-  unfolding another refuse
-  another-many left e h = rw e (child-refuses _ _ _ _ _ _ h refl)
-
-pub another-ended :
-    {body : Reader ℕ} → Steady 4 itself body → (left : ℕ) → (left ≡ 0 → ⊥) → (p : Part) (r : Record) → Opens p r →
-    outcome itself (of_part (another left body) p) ≡ ended r.end (outcome itself (of_part body r.body))
+pub another-nested : (body : Reader ℕ) → Nested 4 (λ left. another left body) (λ _ _. body)
 unfolding another
-another-ended h zero e p r o = absurd (e refl)
-another-ended h (suc left) e p r o = child-opened (λ _. h) p r o
+another-nested body = record { none = refl; some = λ left. refl }
 
 -- what was read of a member
 pub record Next (body : Reader ℕ) (left start at : ℕ) (s : List ℕ) (c : Checked) : Type 0 where
@@ -51,19 +37,16 @@ pub next-read :
     {body : Reader ℕ} → Steady 4 itself body → (left start at : ℕ) (s : List ℕ) {c : Checked} →
     Ok c ≡ outcome itself (another left body start at s) → Next body left start at s c
 unfolding another
-next-read h zero start at s e = absurd (refused-never 4 start at s (came itself (child (λ _. refuse 4) start at s) (sym e)).2)
+next-read h zero start at s e = refused-never 4 start at s (came itself (child (λ _. refuse 4) start at s) (sym e)).2
 next-read {body} h (suc left) start at s {c} e =
     let q = came itself (child (λ _. body) start at s) (sym e) in
-    let x = child-ends (λ _. h) start at s q.2 in
-    let w = (child-read (λ _. body) start at s q.2).long in
-    let i : c.end - at ≡ size_of s = omega (arith, x.0) in
-    let r : q.1 ≡ from (c.end - at) s = x.1 ∙ sym (from-drop (size_of s) s) ∙ ap (λ (i : ℕ). from i s) (sym i) in
+    let x = embedded (λ file end. keeps-record {start = start} {end = end} (λ a to. at + 4 + a ≤ to + 4) λ kind to. h.keeps file at (at + 4) to) q.2 in
     record {
-      reads = q.2 ∙ ap₂ (λ (a : ℕ) (l : List ℕ). read a c.end l) q.3 r;
+      reads = q.2 ∙ ap₂ (λ (a : ℕ) (l : List ℕ). read a c.end l) q.3 (x.leaves ∙ sym (part-all (c.end - at) s));
       some = omega arith;
-      low = omega (arith, x.0, w.low);
-      high = omega (arith, x.0, w.high);
-      pays = omega (arith, x.0, x.2, q.3);
+      low = x.has.0.four;
+      high = x.high;
+      pays = omega (arith, x.has.1, q.3);
     }
 
 -- ---- a group of them
@@ -97,7 +80,7 @@ module _ (kind : ℕ) (body : Reader ℕ) (start at : ℕ) (s : List ℕ) where
       (n : ℕ) {k m : ℕ} {l : List ℕ} → is_next kind s ≡ true → another n body start at s ≡ read k m l →
       outcome sum (group n kind body start at s) ≡ added k (outcome sum (group (n - 1) kind body start m l))
   unfolding group comes is_next another sum
-  group-goes zero h e = absurd (refused-never 4 start at s e)
+  group-goes zero h e = refused-never 4 start at s e
   group-goes (suc n) {k} {m} {l} h e = rw (h, e, sub-one) (go (group n kind body start m l))
     where
       go : (q : Reading (List ℕ)) → outcome sum (after q (λ ks m l. read (k ∷ ks) m l)) ≡ added k (outcome sum q)

@@ -1,13 +1,12 @@
 -- What the check makes of a transition's, a row's and a rule's body.
--- Assumes nothing.
 use Rattle.std.specs.Prelude.{if◌then◌else◌}
-use Prim.Native.Nat.{ℕ, ◌+◌, ◌≤◌}
+use Prim.Native.Nat.{ℕ, ◌+◌}
 use mathlib.Core.Path.{◌≡◌, refl, sym, ap, ◌∙◌}
 use mathlib.Core.Bool.{Bool, true, false, ◌&&◌}
 use mathlib.Core.List.{List, [], ◌∷◌}
 use native.Mathlib.Omega.{arith}
 use lib.Dec.{eqb, ltb, leb}
-use lib.ListN.{length, drop}
+use lib.ListN.{drop}
 use borrow.Author.Tests.{ne_eqb, eqb-true, eqb-false}
 use Rattle.rules.specs.declared.Call.{Call}
 use Rattle.rules.specs.Basics.{choose}
@@ -16,15 +15,14 @@ use Rattle.rules.specs.Reading.{Reading, read, Reader, after, ◌>>=◌, pure, f
 use Rattle.std.specs.Prelude.{Result, Err}
 use Rattle.std.specs.Result.{result_and}
 use Rattle.records.specs.declared.fault.Fault.{Fault}
-use Rattle.records.specs.Checking.{Answer, outcome, found, no_steps, counted, onward, pair}
+use Rattle.records.specs.Checking.{Answer, outcome, found, no_steps, counted, checked_on, pair}
 use Rattle.records.specs.Counting.{step_count}
 use Rattle.records.proofs.Readers.{steady-pair, pair-onward, pair_then, then-pure, then_same, then-onward, counts}
-use Rattle.records.proofs.Inversion.{then-read}
-use Rattle.records.proofs.ExpressionLaws.{steady-expression}
-use Rattle.files.specs.Answers.{value_at, field_answer}
+use Rattle.records.proofs.ExpressionLaws.{expression-pays}
+use Rattle.files.specs.FieldAnswers.{value_at, field_answer}
 use Rattle.files.specs.Members.{transition_head, rule_head, transition_steps, member, itself}
-use Rattle.files.proofs.FieldLaws.{tested, outcome-tested, after-tested, tested-read, and-twice}
-use Rattle.files.proofs.FieldLaws.{field_fits, field_step, plain_step, zero-step, words_answer}
+use Rattle.files.proofs.FieldLaws.{tested, outcome-tested, after-tested, and-twice}
+use Rattle.files.proofs.FieldLaws.{field_step, plain_step, zero-step, words_answer}
 use Rattle.files.proofs.Steadies.{steady-transition-head, steady-rule-head}
 
 module _ (start at : ℕ) (b : List ℕ) where
@@ -92,29 +90,15 @@ module _ (start at : ℕ) (b : List ℕ) where
 
       pub transition-onward :
           outcome transition_steps (transition_body vars states start at b)
-          ≡ onward step_count st start at b (counted 1 (onward no_steps e start at b (outcome no_steps (transition_head states start at b))))
+          ≡ checked_on step_count st start at b (counted 1 (checked_on no_steps e start at b (outcome no_steps (transition_head states start at b))))
       unfolding before one
       transition-onward =
           let h = steady-transition-head states 0 (omega arith) in
-          let i = steady-expression vars false 14 in
-          let next : Answer → Answer = onward step_count st start at b in
+          let i = expression-pays vars false 14 in
+          let next : Answer → Answer = checked_on step_count st start at b in
           ap (outcome transition_steps) (transition-then ∙ pair_then (transition_head states) e (λ h x. st >>= λ y. pure (built h x y)) start at b)
           ∙ then-onward (steady-pair h (i 1 (omega arith))) st step_count transition_steps (λ p y. built p.0 p.1 y) (λ p y. refl) start at b
           ∙ ap next (counts one 1 (before start at b) (λ _. refl) ∙ ap (counted 1) (pair-onward h (i 0 (omega arith)) start at b))
-
-      -- a transition's name is its first byte
-      pub transition-name : {t : Transition} {m : ℕ} {l : List ℕ} → transition_body vars states start at b ≡ read t m l → t.name ≡ byte 0
-      transition-name {t} h =
-          let p = tested-read _ _ (tested-read _ _ (tested-read _ _ (tested-read _ _ (sym whole_row ∙ h)))) in
-          let x = then-read e (λ x. st >>= λ y. pure (built (byte 0, byte 1, byte 2) x y)) start (at + 4) (drop 4 b) p in
-          let y = then-read st (λ y. pure (built (byte 0, byte 1, byte 2) x.value y)) start x.mid x.left x.next in
-          let n = y.next in
-          let z : built (byte 0, byte 1, byte 2) x.value y.value ≡ t = cc in
-          ap (λ (t : Transition). t.name) (sym z)
-
-      pub transition-long : {t : Transition} {m : ℕ} {l : List ℕ} → transition_body vars states start at b ≡ read t m l → 1 ≤ length b
-      unfolding transition_body
-      transition-long {t} {m} {l} h = field_fits 1 0 start at b _ (sym (from_start (transition_body vars states)) ∙ h)
 
   -- ---- a call row
 
@@ -181,7 +165,7 @@ module _ (start at : ℕ) (b : List ℕ) where
       unfolding rule_body
       rule-then = from_start (rule_body vars names) ∙ field_step 2 0 start at b (omega arith) _ _ λ h. field_step 1 2 start at b h _ _ λ h. field_step 1 3 start at b h _ _ λ _. refl
 
-      pub rule-one : type ≡ 1 → onward no_steps x start at b (outcome no_steps (rule_head names start at b)) ≡ outcome no_steps (rule_body vars names start at b)
+      pub rule-one : type ≡ 1 → checked_on no_steps x start at b (outcome no_steps (rule_head names start at b)) ≡ outcome no_steps (rule_body vars names start at b)
       unfolding choose
       rule-one h =
           let f : (h : ℕ × ℕ × ℕ) (m : ℕ) (l : List ℕ) → Reading Rule = λ h m l. after (x start m l) (λ e m l. read (always e) m l) in
@@ -209,7 +193,7 @@ module _ (start at : ℕ) (b : List ℕ) where
       rule-refused {e} h = go (eqb type 1) refl
         where
           go : (t : Bool) → eqb type 1 ≡ t → Err e ≡ outcome no_steps (rule_body vars names start at b)
-          go true q = ap (onward no_steps x start at b) h ∙ rule-one (eqb-true type 1 q)
+          go true q = ap (checked_on no_steps x start at b) h ∙ rule-one (eqb-true type 1 q)
           go false q = h ∙ rule-other (eqb-false type 1 q)
 
   -- ---- a member, by its kind

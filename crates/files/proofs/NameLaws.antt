@@ -1,24 +1,24 @@
 -- The names of the transitions that bytes begin with, and those of the transitions that a group read there.
--- Assumes nothing.
-use Rattle.std.specs.Prelude.{if◌then◌else◌}
-use Prim.Native.Nat.{ℕ, zero, suc, ◌+◌, ◌-◌, ◌≤◌}
+use Prim.Native.Nat.{ℕ, zero, suc, ◌≤◌}
 use mathlib.Core.Path.{◌≡◌, refl, sym, ap, ap₂, ◌∙◌}
 use mathlib.Core.Bool.{Bool, true, false}
 use mathlib.Core.List.{List, [], ◌∷◌, map}
 use native.Mathlib.Omega.{arith}
 use lib.Dec.{eqb}
-use lib.ListN.{length, drop}
+use lib.ListN.{length, drop, length-drop}
+use lib.Seq.{drop-drop}
+use Rattle.std.proofs.lemmas.List.{get_or-drop}
 use borrow.Author.Tests.{eqb-true, eqb-false, eq-eqb, ne_eqb}
-use Rattle.rules.specs.Basics.{has, part}
+use Rattle.rules.specs.Basics.{has}
 use Rattle.rules.specs.Syntax.{Transition}
-use Rattle.rules.specs.Reading.{read, Reader, ◌>>=◌, pure, refuse, size_of, kind_of, whole, child, comes, group, transition_body}
-use Rattle.records.proofs.Parts.{both, has_all, part_length, part-number, Whole, whole-record}
-use Rattle.records.proofs.Readers.{child-read, refused-never}
-use Rattle.records.proofs.Inversion.{then-read}
-use Rattle.files.specs.Answers.{value_at}
+use Rattle.rules.specs.Reading.{read, size_of, kind_of, whole, group, transition_body}
+use Rattle.laws.proofs.Basics.{both-true}
+use Rattle.grammar.proofs.Bytes.{has_all, is_whole, whole-record, part-all}
+use Rattle.grammar.proofs.Keeping.{embedded}
+use Rattle.grammar.proofs.Agreements.{comes_in, Row, done, member, TransitionIn, group-keeps, transition-member}
+use Rattle.files.specs.FieldAnswers.{value_at}
 use Rattle.files.specs.Members.{is_next, names_in}
-use Rattle.files.proofs.FieldLaws.{value_there}
-use Rattle.files.proofs.MemberLaws.{transition-name, transition-long}
+use Rattle.files.proofs.FieldLaws.{byte-is}
 
 -- ---- one transition after another
 
@@ -59,47 +59,21 @@ names-none n s e = rw e
 abbrev name_of : Transition → ℕ
 name_of t = t.name
 
-module _ (vars states : ℕ) where
-  abbrev body : Reader Transition
-  body = transition_body vars states
+row-names : (file : List ℕ) (vars states : ℕ) {n at to : ℕ} {ts : List Transition}
+    → Row file (length file) 2 (transition_body vars states) (TransitionIn file vars states) n at ts to → map name_of ts ≡ names_in n (drop at file)
+unfolding is_next comes_in
+row-names file vars states (done {most = n} {at = at} c) = sym (names-stop (drop at file) n (rw (← part-all at file) c))
+row-names file vars states (member {most = n} {at = at} {m = m} c s t r) =
+    let f = drop at file in
+    let k : kind_of f ≡ 2 = eqb-true _ _ (both-true (has 4 f) (eqb (kind_of f) 2) (rw (← part-all at file) c)).1 in
+    let l = length-drop at file in
+    ap₂ (λ (n : ℕ) (ns : List ℕ). n ∷ ns)
+    (t.name ∙ sym (get_or-drop at file 4 0) ∙ byte-is 4 f)
+    (row-names file vars states r ∙ ap (λ (k : ℕ). names_in n (drop k file)) s.size ∙ ap (names_in n) (sym (drop-drop (size_of f) at file)))
+    ∙ sym (names-next f (suc n) n refl (is_whole f (size_of f) refl (omega (arith, s.size, s.four)) (omega (arith, s.size, s.four, s.fits))) k)
 
-  first-name : (at : ℕ) (s : List ℕ) {t : Transition} {m : ℕ} → Whole s (size_of s) → transition_body vars states at (at + 4) (part 4 (size_of s) s) ≡ read t m [] → t.name ≡ value_at 1 4 s
-  first-name at s w h =
-      let n = size_of s in
-      let p : 1 ≤ length (part 4 n s) = transition-long at (at + 4) (part 4 n s) states vars h in
-      let q : length (part 4 n s) ≡ n - 4 = part_length 4 n s w.high in
-      let five : 4 + 1 ≤ n = omega arith in
-      transition-name at (at + 4) (part 4 n s) states vars h
-      ∙ sym (value_there 1 0 (part 4 n s) p)
-      ∙ part-number 4 n 1 s five
-      ∙ value_there 1 4 s (omega (arith, w.high))
-
-  pub names-read :
-      (n start at : ℕ) (s : List ℕ) {ts : List Transition} {to : ℕ} {rest : List ℕ} →
-      group n 2 (transition_body vars states) start at s ≡ read ts to rest → map name_of ts ≡ names_in n s
-  unfolding group comes is_next
-  names-read zero start at s {ts} {to} {rest} h = go (is_next 2 s) h
-    where
-      go : (b : Bool) → (if b then child (λ _. refuse 4) else pure []) start at s ≡ read ts to rest → map name_of ts ≡ names_in 0 s
-      go true h = absurd (refused-never 4 start at s h)
-      go false h = let z : [] ≡ ts = cc in ap (map name_of) (sym z) ∙ sym (names-none 0 s refl)
-  names-read (suc n) start at s {ts} {to} {rest} h = go (is_next 2 s) refl h (λ m l us o r e. names-read n start m l e)
-    where
-      go :
-          (b : Bool) → is_next 2 s ≡ b →
-          (if b then (child (λ _. body) >>= λ x. group n 2 body >>= λ xs. pure (x ∷ xs)) else pure []) start at s ≡ read ts to rest →
-          ((m : ℕ) (l : List ℕ) (us : List Transition) (o : ℕ) (r : List ℕ) → group n 2 body start m l ≡ read us o r → map name_of us ≡ names_in n l) →
-          map name_of ts ≡ names_in (suc n) s
-      go true i h again =
-          let x = then-read (child (λ _. body)) (λ x. group n 2 body >>= λ xs. pure (x ∷ xs)) start at s h in
-          let y = then-read (group n 2 body) (λ xs. pure (x.value ∷ xs)) start x.mid x.left x.next in
-          let c = child-read (λ _. body) start at s x.here in
-          let k : kind_of s ≡ 2 = eqb-true _ _ (both (has 4 s) (eqb (kind_of s) 2) i).1 in
-          let w = y.next in
-          let z : (x.value ∷ y.value) ≡ ts = cc in
-          ap (map name_of) (sym z)
-          ∙ ap₂ (λ (n : ℕ) (ns : List ℕ). n ∷ ns) (first-name at s c.long c.reads) (again x.mid x.left y.value _ _ y.here ∙ ap (names_in n) c.leaves)
-          ∙ sym (names-next s (suc n) n refl c.long.is k)
-      go false i h again =
-          let z : [] ≡ ts = cc in
-          ap (map name_of) (sym z) ∙ sym (names-stop s (suc n) i)
+pub names-read : (vars states n start at : ℕ) (s : List ℕ) {ts : List Transition} {to : ℕ} {rest : List ℕ}
+    → group n 2 (transition_body vars states) start at s ≡ read ts to rest → map name_of ts ≡ names_in n s
+names-read vars states n start at s h =
+    let x = embedded (λ file end. group-keeps file end 2 (TransitionIn file vars states) (transition-member file vars states) n start at) h in
+    row-names x.file vars states x.has ∙ ap (names_in n) x.here

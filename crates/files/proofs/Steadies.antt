@@ -1,167 +1,87 @@
 -- How far the readers of an agreement's parts go.
--- Assumes nothing.
-use Prim.Native.Nat.{ℕ, zero, suc, ◌+◌, ◌≤◌}
-use mathlib.Core.Path.{◌≡◌, refl}
-use mathlib.Core.Bool.{true, false, ◌&&◌}
-use mathlib.Core.List.{List, [], ◌∷◌, map}
+use Prim.Native.Nat.{ℕ, ◌+◌, ◌-◌, ◌≤◌}
+use mathlib.Core.Path.{refl}
+use mathlib.Core.List.{List, map}
 use native.Mathlib.Omega.{arith}
-use lib.Dec.{eqb, ltb, leb}
-use Rattle.rules.specs.Basics.{has, padded, sum}
-use Rattle.rules.specs.Syntax.{Transition, Agreement, always, not_after, only_after}
-use Rattle.rules.specs.Reading.{Reader, field, fields, zero_byte, kind_of, is_empty, comes, group, no_more, named}
-use Rattle.rules.specs.Reading.{transition_body, rule_body, row_body, fields_body, agreement_body}
+use Rattle.rules.specs.Basics.{sum}
+use Rattle.rules.specs.Syntax.{Transition}
+use Rattle.rules.specs.Reading.{group, fields_body}
+use Rattle.laws.proofs.Choosing.{done, ◌&◌}
+use Rattle.grammar.proofs.Keeping.{keeps-pure, keeps-test, keeps-choose, keeps-then, keeps-as, keeps-on, keeps-field, keeps-zero}
+use Rattle.grammar.proofs.Agreements.{in-body, from-body, fields-keep, transition-keeps, row-keeps, rule-keeps, TransitionAt, RowIn, RuleIn, TransitionIn}
+use Rattle.grammar.proofs.Agreements.{group-keeps, row-pays, transition-member, row-member, rule-member, no-more-keeps}
 use Rattle.records.specs.Checking.{no_steps}
-use Rattle.records.proofs.Readers.{Steady, steady-pure, steady-refuse, steady-first, steady-other, steady-peek, steady-if, steady-range, steady-field, steady_then, steady-child}
-use Rattle.records.proofs.Inversion.{field-read}
-use Rattle.records.proofs.ExpressionLaws.{steady-expression}
-use Rattle.records.proofs.StatementLaws.{steady-statement}
+use Rattle.records.proofs.Readers.{Steady, steady-none}
+use Rattle.records.proofs.StatementLaws.{statement-pays}
 use Rattle.files.specs.Members.{transition_head, rule_head, transition_steps, member, itself}
-use Rattle.files.specs.Trees.{tree_steps, groups, groups_steps}
-use Rattle.files.proofs.TreeSteps.{tree-steps}
-
--- ---- fields
-
--- a field pays for as many steps as it has bytes
-field-pays : (n c : ℕ) → c ≤ n → Steady 0 (λ _. c) (field n)
-field-pays n c h =
-    record {
-      moves = λ start at left e.
-          let x = field-read n start at left e in
-          record { by = n; goes = x.2; leaves = x.3; fits = x.0; pays = omega arith };
-    }
-
-steady-zero : {k : ℕ} → Steady k no_steps zero_byte
-unfolding zero_byte
-steady-zero = steady_then (steady-field 1) λ z. steady-range (eqb z 0)
-
-steady-fields : {k : ℕ} (j n : ℕ) → Steady k no_steps (fields j n)
-unfolding fields
-steady-fields zero n = steady-pure [] (omega arith)
-steady-fields (suc j) n = steady_then (steady-field n) λ x. steady_then (steady-fields j n) λ xs. steady-pure (x ∷ xs) (omega arith)
+use Rattle.files.specs.Trees.{groups, groups_steps}
 
 pub steady-fields-body : Steady 0 no_steps fields_body
-unfolding fields_body
-steady-fields-body =
-    steady_then (steady-field 1) λ S. steady_then (steady-range (leb 1 S && leb S 64)) λ _.
-    steady_then (steady-field 1) λ v. steady_then (steady-range (leb v 16)) λ _.
-    steady_then (steady-field 1) λ A. steady_then (steady-range (leb 1 A && leb A 8)) λ _.
-    steady_then (steady-field 1) λ s. steady_then (steady-range (ltb s S)) λ _.
-    steady_then (steady-field 1) λ d. steady_then (steady-range (leb d 8)) λ _.
-    steady_then steady-zero λ _.
-    steady_then (steady-field 2) λ u. steady_then (steady-range (leb 1 u && leb u 4096)) λ _.
-    steady_then (steady-field 4) λ b. steady_then (steady-range (leb 1 b && leb b 1_000_000)) λ _.
-    steady_then (steady-fields A 4) λ xs.
-    steady-pure (record { states = S; variables = v; accounts = A; start = s; depth = d; limit = u; bound = b; opening = padded 8 xs }) (omega arith)
+steady-fields-body = steady-none λ file start at end. from-body (fields-keep file (λ k. at + (k - 4)) (in-body at) start end)
 
 -- ---- members
 
+-- a transition's fields pay for its guard's step
 pub steady-transition-head : (states c : ℕ) → c ≤ 1 → Steady 0 (λ _. c) (transition_head states)
 unfolding transition_head
 steady-transition-head states c few =
-    steady_then (field-pays 1 c few) λ n.
-    steady_then (steady-field 1) λ f. steady_then (steady-range (ltb f states)) λ _.
-    steady_then (steady-field 1) λ t. steady_then (steady-range (ltb t states)) λ _.
-    steady_then steady-zero λ _.
-    steady-pure (n, f, t) (omega arith)
+    record {
+      keeps = λ file start at end.
+          keeps-field 1 (at + 1) _ refl
+          (keeps-field 1 (at + 2) _ (omega arith) (keeps-test _ λ _.
+          keeps-field 1 (at + 3) _ (omega arith) (keeps-test _ λ _.
+          keeps-zero (at + 4) (omega arith) (keeps-pure _ (omega arith)))));
+    }
 
 pub steady-rule-head : (names : List ℕ) → Steady 0 no_steps (rule_head names)
 unfolding rule_head
 steady-rule-head names =
-    steady_then (steady-field 2) λ t. steady_then (steady-range (leb 1 t && leb t 3)) λ _.
-    steady_then (steady-field 1) λ p. steady_then (steady-range (named names t p)) λ _.
-    steady_then (steady-field 1) λ q. steady_then (steady-range (named names t q)) λ _.
-    steady-pure (t, p, q) (omega arith)
-
-pub steady-transition : (vars states : ℕ) → Steady 0 transition_steps (transition_body vars states)
-unfolding transition_body
-steady-transition vars states =
-    steady_then (steady-peek λ start at left. start) λ a.
-    steady_then (field-pays 1 1 (omega arith)) λ n.
-    steady_then (steady-field 1) λ f. steady_then (steady-range (ltb f states)) λ _.
-    steady_then (steady-field 1) λ t. steady_then (steady-range (ltb t states)) λ _.
-    steady_then steady-zero λ _.
-    steady_then (steady-peek λ start at left. at) λ g.
-    steady_then (steady-expression vars false 14 0 (omega arith)) λ x.
-    steady_then (steady-statement vars 14) λ y.
-    steady-pure (record { at = a; name = n; from = f; to = t; guard_at = g; guard = x; action = y }) (omega arith)
-
-steady-rule : (vars : ℕ) (names : List ℕ) → Steady 0 no_steps (rule_body vars names)
-unfolding rule_body
-steady-rule vars names =
-    steady_then (steady-field 2) λ t. steady_then (steady-range (leb 1 t && leb t 3)) λ _.
-    steady_then (steady-field 1) λ p. steady_then (steady-range (named names t p)) λ _.
-    steady_then (steady-field 1) λ q. steady_then (steady-range (named names t q)) λ _.
-    steady-first _ _ _ _ (steady_then (steady-expression vars true 14 0 (omega arith)) λ x. steady-pure (always x) (omega arith))
-    (steady-first _ _ _ _ (steady-pure (not_after p q) (omega arith)) (steady-other _ _ (steady-pure (only_after p q) (omega arith))))
-
-steady-row : (accounts : ℕ) → Steady 0 no_steps (row_body accounts)
-unfolding row_body
-steady-row accounts =
-    steady_then (steady-field 1) λ n.
-    steady_then (steady-field 1) λ s. steady_then (steady-range (ltb s accounts)) λ _.
-    steady_then steady-zero λ _. steady_then steady-zero λ _.
-    steady_then (steady-field 4) λ c. steady_then (steady-fields 4 4) λ xs.
-    steady-pure (record { name = n; sender = s; coins = c; arguments = xs }) (omega arith)
-
--- more bytes to pay from
-more : {A : Type 0} {count : A → ℕ} {r : Reader A} (k : ℕ) → Steady 0 count r → Steady k count r
-more k h =
     record {
-      moves = λ start at left e.
-          let x = h.moves start at left e in
-          record { by = x.by; goes = x.goes; leaves = x.leaves; fits = x.fits; pays = omega (arith, x.pays) };
+      keeps = λ file start at end.
+          keeps-field 2 (at + 2) _ refl (keeps-test _ λ _.
+          keeps-field 1 (at + 3) _ (omega arith) (keeps-test _ λ _.
+          keeps-field 1 (at + 4) _ (omega arith) (keeps-test _ λ _. keeps-pure _ (omega arith))));
     }
+
+-- a transition pays for its steps
+transition-pays : {file : List ℕ} {vars states start : ℕ} {o : ℕ → ℕ} {t : Transition} {to : ℕ} → TransitionAt file vars states start o t to → o 8 + transition_steps t ≤ to
+transition-pays h = omega (arith, h.guard_at, h.guard.four, statement-pays h.sound)
 
 pub steady-member : (states vars accounts : ℕ) (names : List ℕ) (kind : ℕ) → Steady 4 itself (member states vars accounts names kind)
 unfolding member
 steady-member states vars accounts names kind =
-    steady-first _ _ _ _ (steady_then (steady-transition vars states) λ t. steady-pure (transition_steps t) (omega arith))
-    (steady-first _ _ _ _ (steady_then (steady-row accounts) λ c. steady-pure 0 (omega arith))
-    (steady-other _ _ (steady_then (steady-rule vars names) λ r. steady-pure 0 (omega arith))))
+    record {
+      keeps = λ file start at end.
+          let o : ℕ → ℕ = λ k. at + (k - 4) in
+          keeps-choose kind
+          (keeps-then (from-body (transition-keeps file vars states o (in-body at) start end)) (λ t to h. keeps-pure _ (omega (arith, transition-pays h)))
+          & keeps-then (keeps-on (from-body (row-keeps file accounts o (in-body at) start end))) (λ k to l. keeps-pure _ (omega arith))
+          & done)
+          (keeps-then (keeps-on (from-body (rule-keeps file vars names o (in-body at) start end))) λ r to l. keeps-pure _ (omega arith));
+    }
 
 -- ---- groups
 
-module _ {A : Type 0} {cost : A → ℕ} {body : Reader A} (h : Steady 4 cost body) (count : List A → ℕ) (kind : ℕ) where
-  pub steady-group : count [] ≡ 0 → ((x : A) (xs : List A) → count (x ∷ xs) ≡ cost x + count xs) → (n : ℕ) → Steady 0 count (group n kind body)
-  unfolding group comes
-  steady-group none some zero =
-      steady_then (steady-peek λ start at left. has 4 left && eqb (kind_of left) kind) λ c.
-      steady-if c (steady-child λ _. steady-refuse 4) (steady-pure [] (omega (arith, none)))
-  steady-group none some (suc n) =
-      steady_then (steady-peek λ start at left. has 4 left && eqb (kind_of left) kind) λ c.
-      steady-if c
-      (steady_then (steady-child λ _. h) λ x. steady_then (steady-group none some n) λ xs. steady-pure (x ∷ xs) (omega (arith, some x xs)))
-      (steady-pure [] (omega (arith, none)))
-
 pub steady-members : (states vars accounts : ℕ) (names : List ℕ) (kind n : ℕ) → Steady 0 sum (group n kind (member states vars accounts names kind))
 unfolding sum
-steady-members states vars accounts names kind n = steady-group (steady-member states vars accounts names kind) sum kind refl (λ x xs. refl) n
-
-steady-no-more : {k : ℕ} → Steady k no_steps no_more
-unfolding no_more
-steady-no-more =
-    steady_then (steady-peek λ start at left. is_empty left) λ e.
-    steady-if e (steady-pure tt (omega arith)) (more _ (steady-child λ _. steady-refuse 3))
+steady-members states vars accounts names kind n =
+    record {
+      keeps = λ file start at end.
+          keeps-as
+          (group-keeps file end kind (λ at x to. at + 4 + x ≤ to + 4) (λ at to. (steady-member states vars accounts names kind).keeps file at (at + 4) to) n start at)
+          λ xs to r. omega (arith, row-pays file itself sum refl (λ x xs. refl) (λ at x to h. omega arith) r);
+    }
 
 module _ (states vars accounts : ℕ) where
   pub steady-groups : Steady 0 groups_steps (groups states vars accounts)
   unfolding groups sum
   steady-groups =
-      steady_then (steady-group (more 4 (steady-transition vars states)) (λ ts. sum (map transition_steps ts)) 2 refl (λ t ts. refl) 64) λ ts.
-      steady_then (steady-group (more 4 (steady-row accounts)) no_steps 3 refl (λ c cs. refl) 16) λ cs.
-      steady_then (steady-group (more 4 (steady-rule vars (map (λ (t : Transition). t.name) ts))) no_steps 4 refl (λ r rs. refl) 8) λ rs.
-      steady_then steady-no-more λ _.
-      steady-pure (ts, cs, rs) (omega arith)
-
-pub steady-agreement : Steady 0 tree_steps agreement_body
-unfolding agreement_body sum
-steady-agreement =
-    steady_then steady-fields-body λ f.
-    steady_then (steady-statement f.variables 15) λ i.
-    steady_then (steady-statement f.variables 15) λ e.
-    steady_then (steady-group (more 4 (steady-transition f.variables f.states)) (λ ts. sum (map transition_steps ts)) 2 refl (λ t ts. refl) 64) λ ts.
-    steady_then (steady-group (more 4 (steady-row f.accounts)) no_steps 3 refl (λ c cs. refl) 16) λ cs.
-    steady_then (steady-group (more 4 (steady-rule f.variables (map (λ (t : Transition). t.name) ts))) no_steps 4 refl (λ r rs. refl) 8) λ rs.
-    steady_then steady-no-more λ _.
-    let tree : Agreement = record { fields = f; initial = i; fallback = e; transitions = ts; rows = cs; rules = rs } in
-    steady-pure tree (omega (arith, tree-steps tree))
+      record {
+        keeps = λ file start at end.
+            keeps-then (group-keeps file end 2 (TransitionIn file vars states) (transition-member file vars states) 64 start at) λ ts b r.
+            keeps-then (keeps-on (group-keeps file end 3 (RowIn file accounts) (row-member file accounts) 16 start b)) λ cs c l.
+            keeps-then (keeps-on (group-keeps file end 4 (RuleIn file vars) (rule-member file vars (map (λ (t : Transition). t.name) ts)) 8 start c)) λ rs d m.
+            keeps-then (keeps-on (no-more-keeps file start d end)) λ _ to n.
+            let pays = row-pays file transition_steps (λ ts. sum (map transition_steps ts)) refl (λ t ts. refl) (λ at t to h. omega (arith, transition-pays h)) r in
+            keeps-pure (ts, cs, rs) (omega (arith, pays));
+      }

@@ -1,31 +1,31 @@
 -- What the check makes of an agreement's groups, of its body and of a file.
--- Assumes nothing.
 use Prim.Native.Nat.{ℕ, ◌+◌, ◌≤◌}
 use mathlib.Core.Bool.{true, false, ◌&&◌}
 use mathlib.Core.Path.{◌≡◌, refl, sym, ap, ◌∙◌}
 use mathlib.Core.List.{List, [], ◌∷◌, map}
 use native.Mathlib.Omega.{arith}
-use lib.Dec.{eqb, leb}
+use lib.Dec.{leb}
 use lib.ListN.{length}
 use borrow.Author.Tests.{leb-true, le-leb, eq-eqb, ne_eqb}
 use Rattle.rules.specs.declared.Call.{Call}
-use Rattle.rules.specs.declared.Fields.{Fields}
 use Rattle.rules.specs.Basics.{choose, part, sum}
 use Rattle.rules.specs.Syntax.{Stmt, Transition, Rule}
 use Rattle.rules.specs.Reading.{Reading, refused, read, Reader, after, ◌>>=◌, ◌>>◌, pure, refuse, size_of, kind_of, child, only, group, no_more}
 use Rattle.rules.specs.Reading.{statement, transition_body, rule_body, row_body, fields_body, agreement_body, read_tree}
-use Rattle.records.specs.Checking.{Answer, outcome, found, refused_at, no_steps, ended, onward, pair}
+use Rattle.records.specs.Checking.{Answer, outcome, found, refused_at, no_steps, ended, checked_on, pair}
 use Rattle.records.specs.Counting.{step_count}
-use Rattle.records.proofs.Parts.{Whole, both, is_whole}
-use Rattle.records.proofs.Readers.{Steady, steady-if, steady-refuse, steady-pair, pair-onward, pair_then}
+use Rattle.laws.proofs.Basics.{both-true}
+use Rattle.grammar.proofs.Bytes.{Whole, is_whole}
+use Rattle.grammar.proofs.Accepted.{file-inner}
+use Rattle.records.proofs.Readers.{Steady, steady-pair, pair-onward, pair_then}
 use Rattle.records.proofs.Readers.{then_same, then-onward, child-refuses, child-ended}
 use Rattle.records.proofs.StatementLaws.{steady-statement}
-use Rattle.files.specs.Answers.{value_at}
+use Rattle.files.specs.FieldAnswers.{value_at}
 use Rattle.files.specs.Members.{transition_steps, member, itself, names_in}
 use Rattle.files.specs.Trees.{tree_steps, groups, groups_steps, groups_of}
 use Rattle.files.proofs.TreeSteps.{tree-steps}
-use Rattle.files.proofs.FieldLaws.{fields_at, fields-are}
-use Rattle.files.proofs.Steadies.{steady-fields-body, steady-members, steady-agreement}
+use Rattle.files.proofs.FieldLaws.{fields-are}
+use Rattle.files.proofs.Steadies.{steady-fields-body, steady-members}
 use Rattle.files.proofs.NameLaws.{names-read}
 use Rattle.files.proofs.GroupLaws.{group-steps}
 
@@ -71,10 +71,10 @@ module _ (states vars accounts start at : ℕ) (s : List ℕ) where
   members most kind = group most kind (member states vars accounts (names_in 64 s) kind)
 
   abbrev rows : Answer
-  rows = onward sum (members 16 3) start at s (outcome sum (members 64 2 start at s))
+  rows = checked_on sum (members 16 3) start at s (outcome sum (members 64 2 start at s))
 
   abbrev rules : Answer
-  rules = onward sum (members 8 4) start at s rows
+  rules = checked_on sum (members 8 4) start at s rows
 
   abbrev total : List ℕ → List ℕ → List ℕ → ℕ
   total a b c = sum a + sum b + sum c
@@ -103,10 +103,10 @@ module _ (states vars accounts start at : ℕ) (s : List ℕ) where
   steady : (most kind : ℕ) → Steady 0 sum (members most kind)
   steady most kind = steady-members states vars accounts (names_in 64 s) kind most
 
-  rules-paired : onward sum (members 8 4) start at s (outcome (λ p. sum p.0 + sum p.1) (pair (members 64 2) (members 16 3) start at s)) ≡ rules
-  rules-paired = ap (onward sum (members 8 4) start at s) (pair-onward (steady 64 2) (steady 16 3) start at s)
+  rules-paired : checked_on sum (members 8 4) start at s (outcome (λ p. sum p.0 + sum p.1) (pair (members 64 2) (members 16 3) start at s)) ≡ rules
+  rules-paired = ap (checked_on sum (members 8 4) start at s) (pair-onward (steady 64 2) (steady 16 3) start at s)
 
-  pub groups-onward : onward no_steps no_more start at s rules ≡ outcome groups_steps (groups states vars accounts start at s)
+  pub groups-onward : checked_on no_steps no_more start at s rules ≡ outcome groups_steps (groups states vars accounts start at s)
   groups-onward =
       let two = steady-pair (steady 64 2) (steady 16 3) in
       sym
@@ -115,7 +115,7 @@ module _ (states vars accounts start at : ℕ) (s : List ℕ) where
       (pair_then (members 64 2) (members 16 3) (λ a b. members 8 4 >>= λ c. no_more >>= λ _. pure (total a b c)) start at s
       ∙ pair_then (pair (members 64 2) (members 16 3)) (members 8 4) (λ p c. no_more >>= λ _. pure (total p.0 p.1 c)) start at s)
       ∙ then-onward (steady-pair two (steady 8 4)) no_more no_steps itself (λ p _. total p.0.0 p.0.1 p.1) (λ p _. omega arith) start at s
-      ∙ ap (onward no_steps no_more start at s) (pair-onward two (steady 8 4) start at s ∙ rules-paired))
+      ∙ ap (checked_on no_steps no_more start at s) (pair-onward two (steady 8 4) start at s ∙ rules-paired))
 
 -- ---- the agreement
 
@@ -130,22 +130,22 @@ module _ (start at : ℕ) (b : List ℕ) where
   grouped = groups_of b
 
   abbrev initial : Answer
-  initial = onward step_count st start at b (outcome no_steps (fields_body start at b))
+  initial = checked_on step_count st start at b (outcome no_steps (fields_body start at b))
 
   abbrev fallback : Answer
-  fallback = onward step_count st start at b initial
+  fallback = checked_on step_count st start at b initial
 
   -- what follows the fields, read for its steps
-  abbrev tail : Fields → Reader ℕ
-  tail f =
-      statement f.variables 15 >>= λ i. statement f.variables 15 >>= λ e.
-      groups f.states f.variables f.accounts >>= λ g. pure (step_count i + step_count e + groups_steps g)
+  abbrev tail : (states variables accounts : ℕ) → Reader ℕ
+  tail S v A = statement v 15 >>= λ i. statement v 15 >>= λ e. groups S v A >>= λ g. pure (step_count i + step_count e + groups_steps g)
 
-  tree-by-steps : outcome tree_steps (agreement_body start at b) ≡ outcome itself ((fields_body >>= λ _. tail (fields_at b)) start at b)
+  tree-by-steps : outcome tree_steps (agreement_body start at b) ≡ outcome itself ((fields_body >>= λ _. tail (value_at 1 0 b) vars (value_at 1 2 b)) start at b)
   unfolding agreement_body groups
   tree-by-steps =
-      then-reads (fields_body start at b) _ (λ _ m l. tail (fields_at b) start m l) tree_steps itself
+      then-reads (fields_body start at b) _ (λ _ m l. tail (value_at 1 0 b) vars (value_at 1 2 b) start m l) tree_steps itself
       λ f m l h.
+      let e = fields-are start at b h in
+      let z : outcome itself (tail f.states f.variables f.accounts start m l) ≡ outcome itself (tail (value_at 1 0 b) vars (value_at 1 2 b) start m l) = rw (e.0, e.1, e.2) in
       then_same (statement f.variables 15 start m l) _ _ tree_steps itself (λ i m l.
       then_same (statement f.variables 15 start m l) _ _ tree_steps itself λ e m l.
       then-inner (group 64 2 (transition_body f.variables f.states) start m l) _ _ _ tree_steps itself λ ts m l.
@@ -153,15 +153,15 @@ module _ (start at : ℕ) (b : List ℕ) where
       then-inner (group 8 4 (rule_body f.variables (map (λ (t : Transition). t.name) ts)) start m l) _ _ _ tree_steps itself λ rs m l.
       then-inner (no_more start m l) _ _ _ tree_steps itself λ _ m l.
       ap (found m) (tree-steps (record { fields = f; initial = i; fallback = e; transitions = ts; rows = cs; rules = rs })))
-      ∙ ap (λ (f : Fields). outcome itself (tail f start m l)) (fields-are start at b h)
+      ∙ z
 
   steady-st : Steady 0 step_count st
   steady-st = steady-statement vars 15
 
-  fallback-paired : onward step_count st start at b (outcome (λ p. no_steps p.0 + step_count p.1) (pair fields_body st start at b)) ≡ fallback
-  fallback-paired = ap (onward step_count st start at b) (pair-onward steady-fields-body steady-st start at b)
+  fallback-paired : checked_on step_count st start at b (outcome (λ p. no_steps p.0 + step_count p.1) (pair fields_body st start at b)) ≡ fallback
+  fallback-paired = ap (checked_on step_count st start at b) (pair-onward steady-fields-body steady-st start at b)
 
-  pub tree-onward : onward groups_steps grouped start at b fallback ≡ outcome tree_steps (agreement_body start at b)
+  pub tree-onward : checked_on groups_steps grouped start at b fallback ≡ outcome tree_steps (agreement_body start at b)
   tree-onward =
       let two = steady-pair steady-fields-body steady-st in
       sym
@@ -170,7 +170,7 @@ module _ (start at : ℕ) (b : List ℕ) where
       (pair_then fields_body st (λ _ i. st >>= λ e. grouped >>= λ g. pure (step_count i + step_count e + groups_steps g)) start at b
       ∙ pair_then (pair fields_body st) st (λ p e. grouped >>= λ g. pure (step_count p.1 + step_count e + groups_steps g)) start at b)
       ∙ then-onward (steady-pair two steady-st) grouped groups_steps itself (λ p g. step_count p.0.1 + step_count p.1 + groups_steps g) (λ p g. omega arith) start at b
-      ∙ ap (onward groups_steps grouped start at b) (pair-onward two steady-st start at b ∙ fallback-paired))
+      ∙ ap (checked_on groups_steps grouped start at b) (pair-onward two steady-st start at b ∙ fallback-paired))
 
 -- ---- the file
 
@@ -184,7 +184,7 @@ module _ (file : List ℕ) where
 
   pub file-inside : (leb 4 (length file) && leb (length file) 32768) ≡ true → (4 ≤ length file) × (length file ≤ 32768)
   file-inside h =
-      let b = both (leb 4 (length file)) (leb (length file) 32768) h in
+      let b = both-true (leb 4 (length file)) (leb (length file) 32768) h in
       (leb-true _ _ b.0, leb-true _ _ b.1)
 
   module _ (four : 4 ≤ length file) where
@@ -205,12 +205,8 @@ module _ (file : List ℕ) where
         unfolding only refuse
         file-kind k = sym (as-child ∙ ap (outcome tree_steps) (child-refuses (only 1 agreement_body) 0 0 file 3 0 entire.is (rw (ne_eqb _ _ k))))
 
-        steady-file : (kind : ℕ) → Steady 0 tree_steps (only 1 agreement_body kind)
-        unfolding only
-        steady-file kind = steady-if (eqb kind 1) steady-agreement (steady-refuse 3)
-
         pub file-ended : kind_of file ≡ 1 → ended (length file) (outcome tree_steps (agreement_body 0 4 (part 4 (length file) file))) ≡ answer
         unfolding only
         file-ended k =
             let z : 0 + length file ≡ length file = omega arith in
-            sym (as-child ∙ child-ended steady-file 0 0 (length file) 1 file entire (sym k) ∙ rw z)
+            sym (as-child ∙ child-ended tree_steps 0 0 (length file) 1 file file-inner entire (sym k) ∙ rw z)

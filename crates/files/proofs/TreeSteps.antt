@@ -1,5 +1,4 @@
 -- The number of steps of a whole agreement.
--- Assumes nothing.
 use Prim.Native.Nat.{ℕ, ◌+◌}
 use mathlib.Core.Path.{◌≡◌, refl}
 use mathlib.Core.List.{List, [], ◌∷◌, ◌++◌, map}
@@ -26,16 +25,16 @@ pub tree-steps : (a : Agreement) → tree_steps a ≡ step_count a.initial + ste
 unfolding expansion
 tree-steps a =
     let f = a.fields in
-    let n = first_new f in
-    let i = expand a.initial (initial_entry f) f.start f.start n in
-    let e = expand a.fallback (fallback_entry f) (fallback_end f) (fallback_end f) (n + made a.initial) in
+    let n = first_new f.states in
+    let i = expand a.initial (initial_entry f.states) f.start f.start n in
+    let e = expand a.fallback (fallback_entry f.states) (fallback_end f.states) (fallback_end f.states) (n + made a.initial) in
     let ts = expand_transitions a.transitions (n + made a.initial + made a.fallback) in
     let z : tree_steps a ≡ length ((i ++ e) ++ ts) = refl in
     omega (
       arith,
       length-append (i ++ e) ts,
       length-append i e,
-      expand-length a.initial (initial_entry f) f.start f.start n,
-      expand-length a.fallback (fallback_entry f) (fallback_end f) (fallback_end f) (n + made a.initial),
+      expand-length a.initial (initial_entry f.states) f.start f.start n,
+      expand-length a.fallback (fallback_entry f.states) (fallback_end f.states) (fallback_end f.states) (n + made a.initial),
       transitions-steps a.transitions (n + made a.initial + made a.fallback),
     )

@@ -6,7 +6,7 @@ use Rattle.rules.specs.Reading.{Reader, ◌>>=◌, ◌>>◌, pure, refuse, in_ra
 use Rattle.records.specs.Counting.{step_count}
 use Rattle.records.specs.declared.part.Part.{Part}
 use Rattle.records.specs.Checking.{Answer, outcome, of_part}
-use Rattle.files.specs.Answers.{value_at}
+use Rattle.files.specs.FieldAnswers.{value_at}
 
 -- a transition's fields: its name, from and to
 unfoldable pub transition_head : (states : ℕ) → Reader (ℕ × ℕ × ℕ)

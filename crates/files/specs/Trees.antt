@@ -5,7 +5,7 @@ use Rattle.rules.specs.Basics.{sum}
 use Rattle.rules.specs.Syntax.{Transition, Rule, Agreement}
 use Rattle.rules.specs.Reading.{Reader, ◌>>=◌, ◌>>◌, pure, group, no_more, transition_body, rule_body, row_body}
 use Rattle.rules.specs.Expanding.{expansion}
-use Rattle.files.specs.Answers.{value_at}
+use Rattle.files.specs.FieldAnswers.{value_at}
 use Rattle.files.specs.Members.{transition_steps}
 
 -- the number of steps of an agreement's expansion

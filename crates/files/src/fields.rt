@@ -2,7 +2,7 @@
 ghost use Rattle.std.specs.Prelude.{◌≡◌, ◌+◌, ◌^◌, ◌<◌, ◌≤◌, length, drop};
 ghost use Rattle.rules.specs.Reading.{fields as fields_of, fields_body};
 ghost use Rattle.records.specs.Checking.{outcome, of_part, no_steps};
-ghost use Rattle.files.specs.Answers.{field_answer};
+ghost use Rattle.files.specs.FieldAnswers.{field_answer};
 
 use crate::values::{byte, half, word};
 use records::answers::Checked;

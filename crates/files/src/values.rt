@@ -2,7 +2,7 @@
 // value has no part in the answer.
 // This serves our own crates only: a caller has to see that the place is small.
 ghost use Rattle.std.specs.Prelude.{◌≡◌, ◌<◌};
-ghost use Rattle.files.specs.Answers.{value_at};
+ghost use Rattle.files.specs.FieldAnswers.{value_at};
 
 use records::bytes::{u16_at, u32_at};
 

@@ -1,23 +1,24 @@
 -- What is known of an expression record that the reading accepts: one law for each kind, from the tree to its parts.
 -- n is the record's length, as its first field says; a child's length is what stands at the child's start.
--- Assumes nothing.
 use Rattle.std.specs.Prelude.{if◌then◌else◌}
-use Prim.Native.Nat.{ℕ, zero, suc, ◌+◌, ◌≤◌, ◌<◌}
-use mathlib.Core.Path.{◌≡◌, refl, sym, subst₂, ◌∙◌}
+use Prim.Native.Nat.{ℕ, ◌+◌, ◌≤◌, ◌<◌}
+use mathlib.Core.Path.{◌≡◌, refl, ◌∙◌}
 use mathlib.Core.Bool.{Bool, true, false, ◌&&◌}
 use mathlib.Core.List.{List, []}
 use native.Mathlib.Omega.{arith}
 use lib.Dec.{ltb, leb}
 use lib.ListN.{length, take, drop}
-use borrow.Author.Tests.{ltb-true, ne_eqb}
-use Rattle.rules.specs.Basics.{choose, part, number}
+use borrow.Author.Tests.{ltb-true}
+use Rattle.rules.specs.Basics.{choose, any, part, number}
 use Rattle.rules.specs.Syntax.{Expr, constant, variable, local, argument, context, binary, not}
 use Rattle.rules.specs.Reading.{read, Reader, ◌>>=◌, ◌>>◌, pure, refuse, in_range, field, size_of, kind_of, expression_body, expression}
-use Rattle.records.specs.Acceptance.{Accepted}
-use Rattle.records.proofs.Parts.{part_length, part-number, both}
-use Rattle.records.proofs.Readers.{unread, refused-never, child-read}
-use Rattle.records.proofs.Inversion.{then-read, child-at, field-read, field_at}
-use Rattle.records.proofs.ExpressionLaws.{ends-expression}
+use Rattle.records.specs.Acceptance.{Accepted, AcceptedBy}
+use Rattle.laws.proofs.Basics.{both-true}
+use Rattle.grammar.proofs.Bytes.{part_length, part-number}
+use Rattle.grammar.proofs.Readings.{unread, then-read}
+use Rattle.records.proofs.KindLaws.{Others, choose-none, expression_kinds}
+use Rattle.records.proofs.Inversion.{Inside, inside, child-at, field-read, field_at}
+use Rattle.records.proofs.ExpressionLaws.{ends-expression, expression-nested}
 
 -- the 16-bit field that a body begins with
 abbrev pub first : List ℕ → ℕ
@@ -26,12 +27,19 @@ first s = number (take 2 (drop 4 s))
 abbrev body_of : (vars : ℕ) (in_rule : Bool) (levels kind : ℕ) → Reader Expr
 body_of vars in_rule levels kind = expression_body vars in_rule (expression vars in_rule levels) kind
 
--- the record behind accepted bytes, with the levels that its children have
-record Step (n kind : ℕ) (s : List ℕ) (a : Accepted s) : Type 0 where
-  left : ℕ
-  low : 4 ≤ n
-  high : n ≤ length s
-  reads : body_of a.vars a.in_rule left kind a.at (a.at + 4) (part 4 n s) ≡ read a.tree a.to []
+-- what was read is accepted
+abbrev pub accepted :
+    {vars : ℕ} (in_rule : Bool) (levels start at : ℕ) {bytes : List ℕ} {tree : Expr} {to : ℕ} {rest : List ℕ} → vars ≤ 16 →
+    expression vars in_rule levels start at bytes ≡ read tree to rest → Accepted bytes
+accepted {vars} in_rule levels start at {tree = tree} {to} {rest} few h =
+    record { levels = levels; vars = vars; in_rule = in_rule; start = start; at = at; tree = tree; to = to; rest = rest; few = few; reads = h }
+
+abbrev pub accepted_by :
+    {A : Type 0} {reader : (vars levels : ℕ) → Reader A} {vars : ℕ} (levels start at : ℕ) {bytes : List ℕ} {tree : A} {to : ℕ} {rest : List ℕ} →
+    vars ≤ 16 →
+    reader vars levels start at bytes ≡ read tree to rest → AcceptedBy reader bytes
+accepted_by {vars = vars} levels start at {tree = tree} {to} {rest} few h =
+    record { levels = levels; vars = vars; start = start; at = at; tree = tree; to = to; rest = rest; few = few; reads = h }
 
 pub record Binary (n q : ℕ) (s : List ℕ) (tree : Expr) : Type 0 where
   pub left : Accepted (part 6 n s)
@@ -47,20 +55,8 @@ pub record Negation (n : ℕ) (s : List ℕ) (tree : Expr) : Type 0 where
   pub is : tree ≡ not child.tree
 
 module _ {n : ℕ} {s : List ℕ} (long : n ≡ size_of s) (a : Accepted s) where
-  step : {kind : ℕ} → kind_of s ≡ kind → Step n kind s a
-  unfolding expression
-  step {kind} k = go a.levels a.reads
-    where
-      go : (l : ℕ) → expression a.vars a.in_rule l a.start a.at s ≡ read a.tree a.to a.rest → Step n kind s a
-      go zero h = absurd (refused-never 5 _ _ _ h)
-      go (suc l) h =
-          let c = child-read _ _ _ _ h in
-          record {
-            left = l;
-            low = omega (arith, c.long.low);
-            high = omega (arith, c.long.high);
-            reads = subst₂ (λ (i m : ℕ). body_of a.vars a.in_rule l i a.at (a.at + 4) (part 4 m s) ≡ read a.tree a.to []) k (sym long) c.reads;
-          }
+  step : {kind : ℕ} → kind_of s ≡ kind → Inside (body_of a.vars a.in_rule) n kind s a.at a.tree a.to
+  step k = inside long k _ (expression-nested a.vars a.in_rule) a.levels a.reads
 
   pub sized : (4 ≤ n) × (n ≤ length s)
   sized = let t = step refl in (t.low, t.high)
@@ -104,7 +100,7 @@ module _ {n : ℕ} {s : List ℕ} (long : n ≡ size_of s) (a : Accepted s) wher
   unruled r h = go a.in_rule h
     where
       go : (b : Bool) → (if b then refuse 3 else r) a.at (a.at + 4) (part 4 n s) ≡ read a.tree a.to [] → r a.at (a.at + 4) (part 4 n s) ≡ read a.tree a.to []
-      go true e = absurd (unread e)
+      go true e = unread e
       go false e = e
 
   pub local-tree : kind_of s ≡ 66 → (6 ≤ n) × (first s < 8) × (a.tree ≡ local (first s))
@@ -126,22 +122,18 @@ module _ {n : ℕ} {s : List ℕ} (long : n ≡ size_of s) (a : Accepted s) wher
   context-tree k =
       let t = step k in
       let x = indexed (λ i. ltb i 4 && (if a.in_rule then leb 2 i else true)) context t.high t.reads in
-      (x.0, ltb-true _ _ (both (ltb (first s) 4) (if a.in_rule then leb 2 (first s) else true) x.1).0, x.2)
-
-  accepted : (levels at b : ℕ) {tree : Expr} {to : ℕ} {rest : List ℕ} → expression a.vars a.in_rule levels a.at at (part b n s) ≡ read tree to rest → Accepted (part b n s)
-  accepted levels at b {tree} {to} {rest} h =
-      record { levels = levels; vars = a.vars; in_rule = a.in_rule; start = a.at; at = at; tree = tree; to = to; rest = rest; few = a.few; reads = h }
+      (x.0, ltb-true _ _ (both-true (ltb (first s) 4) (if a.in_rule then leb 2 (first s) else true) x.1).0, x.2)
 
   pub not-tree : kind_of s ≡ 81 → Negation n s a.tree
-  unfolding expression_body choose accepted
+  unfolding expression_body choose
   not-tree k =
       let t = step k in
       let x = child-at a.at a.at n s t.high (ends-expression a.vars a.in_rule t.left) (λ x. pure (not x)) 4 (number (take 2 (drop 4 s))) refl t.reads in
       let z = x.next in
-      record { child = accepted t.left (a.at + 4) 4 x.here; eight = x.low; is = cc }
+      record { child = accepted _ _ _ _ a.few x.here; eight = x.low; is = cc }
 
   pub binary-tree : kind_of s ≡ 80 → (q : ℕ) → q ≡ number (take 2 (drop 6 s)) → Binary n q s a.tree
-  unfolding expression_body choose accepted
+  unfolding expression_body choose
   binary-tree k q hq =
       let t = step k in
       let e : Reader Expr = expression a.vars a.in_rule t.left in
@@ -152,17 +144,14 @@ module _ {n : ℕ} {s : List ℕ} (long : n ≡ size_of s) (a : Accepted s) wher
       let y = child-at a.at a.at n s t.high h (λ y. pure (binary o x.value y)) (6 + q) (number (take 2 (drop (6 + q) s))) refl x.next in
       let z = y.next in
       record {
-        left = accepted t.left (a.at + 6) 6 x.here;
-        right = accepted t.left (a.at + (6 + q)) (6 + q) y.here;
+        left = accepted _ _ _ _ a.few x.here;
+        right = accepted _ _ _ _ a.few y.here;
         ten = x.low;
         fits = x.fits;
         small = ltb-true _ _ f.passes;
         is = cc;
       }
 
-  pub other-tree :
-      (kind_of s ≡ 64 → ⊥) → (kind_of s ≡ 65 → ⊥) → (kind_of s ≡ 66 → ⊥) → (kind_of s ≡ 67 → ⊥) →
-      (kind_of s ≡ 68 → ⊥) → (kind_of s ≡ 80 → ⊥) → (kind_of s ≡ 81 → ⊥) → ⊥
-  unfolding expression_body choose refuse
-  other-tree b c d e f g h =
-      unread (simp (ne_eqb _ _ b, ne_eqb _ _ c, ne_eqb _ _ d, ne_eqb _ _ e, ne_eqb _ _ f, ne_eqb _ _ g, ne_eqb _ _ h) at (step refl).reads)
+  pub other-tree : Others (kind_of s) expression_kinds → ⊥
+  unfolding expression_body refuse any
+  other-tree h = unread (rw (choose-none _ _ h) at (step refl).reads)

@@ -1,5 +1,4 @@
 -- Laws of a block's statements in a row: the whole from what is left of it.
--- Assumes nothing.
 use Prim.Native.Nat.{ℕ, zero, suc, ◌+◌, ◌-◌, ◌≤◌, ◌<◌}
 use mathlib.Core.Path.{◌≡◌, refl, sym, ap, ◌∙◌}
 use mathlib.Core.Bool.{true, false}
@@ -8,14 +7,17 @@ use native.Mathlib.Omega.{arith}
 use lib.ListN.{length}
 use Rattle.rules.specs.Syntax.{Stmt, Stmts, ◌then◌}
 use Rattle.rules.specs.Reading.{Reading, refused, read, Reader, after, is_empty, statements, statement}
+use Rattle.grammar.proofs.Bytes.{part-all}
+use Rattle.grammar.proofs.Keeping.{embedded}
+use Rattle.grammar.proofs.Statements.{statement-keeps}
 use Rattle.records.specs.Checking.{Answer, outcome, found, added, from}
 use Rattle.records.specs.Counting.{step_count, block_count}
 use Rattle.std.specs.Prelude.{Ok, Err}
 use Rattle.records.specs.declared.fault.Fault.{Fault}
 use Rattle.records.specs.declared.answers.Checked.{Checked}
-use Rattle.records.proofs.Parts.{from-drop, from-length, empty, not-empty}
+use Rattle.records.proofs.Parts.{from-length, empty, not-empty}
 use Rattle.records.proofs.Readers.{came, gone, added_twice}
-use Rattle.records.proofs.StatementLaws.{steady-statement, ends-statement}
+use Rattle.records.proofs.StatementLaws.{statement-pays}
 use Rattle.records.proofs.StepCounts.{count-last, count-more}
 
 -- ---- one statement
@@ -31,17 +33,14 @@ pub record Read (vars levels start at : ℕ) (s : List ℕ) (c : Checked) : Type
 pub statement-read : (vars levels start at : ℕ) (s : List ℕ) {c : Checked} → outcome step_count (statement vars levels start at s) ≡ Ok c → Read vars levels start at s c
 statement-read vars levels start at s {c} h =
     let q = came step_count (statement vars levels start at s) h in
-    let x = (steady-statement vars levels).moves start at s q.2 in
-    let z = (ends-statement vars levels).ends start at s q.2 in
-    let i : c.end - at ≡ x.by = omega (arith, x.goes) in
-    let w : q.1 ≡ from (c.end - at) s = x.leaves ∙ sym (from-drop x.by s) ∙ ap (λ (i : ℕ). from i s) (sym i) in
+    let x = embedded (λ file end. statement-keeps file vars levels start at end) q.2 in
     record {
       tree = q.0;
-      reads = q.2 ∙ ap (read q.0 c.end) w;
+      reads = q.2 ∙ ap (read q.0 c.end) (x.leaves ∙ sym (part-all (c.end - at) s));
       steps = q.3;
-      low = omega (arith, z.low, z.goes);
-      high = omega (arith, x.goes, x.fits);
-      pays = omega (arith, x.goes, x.pays, q.3);
+      low = x.has.0.four;
+      high = x.high;
+      pays = omega (arith, statement-pays x.has.1, q.3);
     }
 
 -- ---- statements in a row

@@ -1,5 +1,4 @@
 -- What is known of a block's statements that the reading accepts: the first one, and what is left after it.
--- Assumes nothing.
 use Rattle.std.specs.Prelude.{if◌then◌else◌}
 use Prim.Native.Nat.{ℕ, zero, suc, ◌+◌, ◌-◌, ◌≤◌, ◌<◌}
 use mathlib.Core.Path.{◌≡◌, refl, sym, ap, subst, subst₂, ◌∙◌}
@@ -11,8 +10,10 @@ use Rattle.rules.specs.Syntax.{Stmt, Stmts, last, ◌then◌}
 use Rattle.rules.specs.Reading.{read, Reader, ◌>>=◌, pure, at_end, size_of, statements, statement}
 use Rattle.records.specs.Checking.{from}
 use Rattle.records.specs.Acceptance.{Good, GoodAll}
-use Rattle.records.proofs.Parts.{from-drop, from-length, from-from, empty, not-empty}
-use Rattle.records.proofs.Inversion.{then-read}
+use Rattle.grammar.proofs.Bytes.{part-all}
+use Rattle.grammar.proofs.Readings.{then-read}
+use Rattle.records.proofs.Parts.{from-length, from-from, empty, not-empty}
+use Rattle.records.proofs.Accepts.{accepted_by}
 use Rattle.records.proofs.StatementLaws.{ends-statement}
 
 -- the first statement, q bytes long, and the others
@@ -42,11 +43,11 @@ more_of (suc fuel) levels vars start at bytes {tree} {to} {rest} few enough h =
     let x = then-read st (λ x. at_end >>= λ e. if e then pure (last x) else others x) start at bytes h in
     let y = (ends-statement vars levels).ends start at bytes x.here in
     let m : x.mid ≡ at + q = y.goes in
-    let l : x.left ≡ from q bytes = y.leaves ∙ sym (from-drop q bytes) in
+    let l : x.left ≡ from q bytes = y.leaves ∙ sym (part-all q bytes) in
     let p : length x.left ≡ length bytes - q = ap length l ∙ from-length q bytes in
     let after : Bool → Type 0 = λ b. (if b then pure (last x.value) else others x.value) start x.mid x.left ≡ read tree to rest in
     record {
-      first = record { levels = levels; vars = vars; start = start; at = at; tree = x.value; to = x.mid; rest = x.left; few = few; reads = x.here };
+      first = accepted_by levels start at few x.here;
       first_at = refl;
       low = y.low;
       fits = y.high;
@@ -106,7 +107,7 @@ pub turn : (i q : ℕ) (s : List ℕ) → q ≡ size_of (from i s) → (b : Good
 turn i q s e b =
     let m = all_more b q e in
     let l = from-length i s in
-    let z : from q (from i s) ≡ from (i + q) s = from-drop q (from i s) ∙ from-from i q s in
+    let z : from q (from i s) ≡ from (i + q) s = part-all q (from i s) ∙ from-from i q s in
     record {
       first = m.first;
       first_at = m.first_at;

@@ -1,33 +1,17 @@
 -- What is known of a record that was read: its fields and children, where they stand in the record.
--- Assumes nothing.
 use Rattle.std.specs.Prelude.{if◌then◌else◌}
-use Prim.Native.Nat.{ℕ, ◌+◌, ◌-◌, ◌≤◌}
+use Prim.Native.Nat.{ℕ, zero, suc, ◌+◌, ◌-◌, ◌≤◌}
 use mathlib.Core.Path.{◌≡◌, refl, sym, ap, ap₂, subst, subst₂, ◌∙◌}
 use mathlib.Core.Bool.{Bool, true, false}
-use mathlib.Core.List.{List}
+use mathlib.Core.List.{List, []}
 use native.Mathlib.Omega.{arith}
 use lib.ListN.{length, take, drop}
 use Rattle.rules.specs.Basics.{has, part, number}
-use Rattle.rules.specs.Reading.{Reading, refused, read, Reader, after, ◌>>=◌, ◌>>◌, refuse, in_range, field, size_of, child}
-use Rattle.records.proofs.Parts.{has-length, part_length, part-drop, part-number}
-use Rattle.records.proofs.Readers.{Steady, unread, child-read, child-ends, refused-never}
-
--- one reader and what followed it
-pub record Then {A B : Type 0} (r : Reader A) (f : A → Reader B) (start at : ℕ) (s : List ℕ) (b : B) (to : ℕ) (rest : List ℕ) : Type 0 where
-  pub value : A
-  pub mid : ℕ
-  pub left : List ℕ
-  pub here : r start at s ≡ read value mid left
-  pub next : f value start mid left ≡ read b to rest
-
-pub then-read :
-    {A B : Type 0} (r : Reader A) (f : A → Reader B) (start at : ℕ) (s : List ℕ) {b : B} {to : ℕ} {rest : List ℕ} →
-    (r >>= f) start at s ≡ read b to rest → Then r f start at s b to rest
-then-read {A} {B} r f start at s {b} {to} {rest} h = go (r start at s) refl h
-  where
-    go : (q : Reading A) → r start at s ≡ q → after q (λ a. f a start) ≡ read b to rest → Then r f start at s b to rest
-    go (refused n p) i e = absurd (unread e)
-    go (read a m l) i e = record { value = a; mid = m; left = l; here = i; next = e }
+use Rattle.rules.specs.Reading.{refused, read, Reader, ◌>>=◌, ◌>>◌, refuse, in_range, field, size_of, kind_of, child}
+use Rattle.grammar.proofs.Bytes.{Whole, has-length, part_length, part-drop, part-number}
+use Rattle.grammar.proofs.Readings.{unread, then-read, child-read}
+use Rattle.grammar.proofs.Keeping.{Keeps, Stored, embedded}
+use Rattle.records.proofs.Readers.{Nested, refused-never}
 
 -- a record that was read up to its length
 pub record Ended (at : ℕ) (s : List ℕ) (to : ℕ) (rest : List ℕ) : Type 0 where
@@ -39,17 +23,39 @@ pub record Ended (at : ℕ) (s : List ℕ) (to : ℕ) (rest : List ℕ) : Type 0
 pub record Ends {A : Type 0} (r : Reader A) : Type 0 where
   pub ends : (start at : ℕ) (s : List ℕ) {a : A} {to : ℕ} {rest : List ℕ} → r start at s ≡ read a to rest → Ended at s to rest
 
-pub ends-child : {A : Type 0} {count : A → ℕ} {body : ℕ → Reader A} → ((kind : ℕ) → Steady 4 count (body kind)) → Ends (child body)
-ends-child {body = body} h =
+pub ends-stored : {A : Type 0} {r : Reader A} → ((file : List ℕ) (start at end : ℕ) → Keeps file start at end r (Stored file r at)) → Ends r
+ends-stored h =
     record {
-      ends = λ start at s e.
-          let x = child-ends h start at s e in
-          let c = child-read body start at s e in
-          record { low = c.long.low; high = c.long.high; goes = x.0; leaves = x.1 };
+      ends = λ start at s {a} {to} e.
+          let x = embedded (λ file end. h file start at end) e in
+          let z : to ≡ at + size_of s = x.has.size ∙ ap (λ (t : List ℕ). at + size_of t) x.here in
+          record {
+            low = omega (arith, x.has.four);
+            high = omega (arith, x.has.fits, x.long);
+            goes = z;
+            leaves = x.leaves ∙ ap (λ (n : ℕ). drop n s) (omega arith);
+          };
     }
 
-pub ends-never : {A : Type 0} (n : ℕ) → Ends {A = A} (child (λ _. refuse n))
-ends-never n = record { ends = λ start at s e. absurd (refused-never n start at s e) }
+-- the record behind bytes that were read, at `at`, with the levels that its children have; n is its length
+pub record Inside {A : Type 0} (body : (levels kind : ℕ) → Reader A) (n kind : ℕ) (s : List ℕ) (at : ℕ) (tree : A) (to : ℕ) : Type 0 where
+  pub left : ℕ
+  pub is : Whole s (size_of s)
+  pub low : 4 ≤ n
+  pub high : n ≤ length s
+  pub reads : body left kind at (at + 4) (part 4 n s) ≡ read tree to []
+
+module _ {A : Type 0} {body : (levels kind : ℕ) → Reader A} {n kind at : ℕ} {s : List ℕ} (long : n ≡ size_of s) (k : kind_of s ≡ kind) (start : ℕ) {tree : A}
+    {to : ℕ} {rest : List ℕ} where
+  pub within : (levels : ℕ) → child (body levels) start at s ≡ read tree to rest → Inside body n kind s at tree to
+  within levels h =
+      let c = child-read _ _ _ _ h in
+      record { left = levels; is = c.long; low = omega (arith, c.long.low); high = omega (arith, c.long.high); reads = rw (← k, long) c.reads }
+
+  pub inside :
+      {r : (levels : ℕ) → Reader A} → Nested 5 r body → (levels : ℕ) → r levels start at s ≡ read tree to rest → Inside body n kind s at tree to
+  inside h zero e = refused-never 5 _ _ _ (rw h.none at e)
+  inside h (suc levels) e = within levels (rw h.some at e)
 
 -- ---- in a record of n bytes at `at`
 
@@ -102,7 +108,7 @@ field-read k start at s {x} {to} {rest} h = go (has k s) refl h
         let q : at + k ≡ to = cc in
         let r : drop k s ≡ rest = cc in
         (has-length k s i, sym p, sym q, sym r)
-    go false i e = absurd (unread e)
+    go false i e = unread e
 
 range-read : (b : Bool) (start at : ℕ) (s : List ℕ) {u : Unit {0}} {to : ℕ} {rest : List ℕ} → in_range b start at s ≡ read u to rest → (b ≡ true) × (to ≡ at) × (rest ≡ s)
 unfolding in_range refuse
@@ -110,7 +116,7 @@ range-read true start at s {to = to} {rest = rest} h =
     let p : at ≡ to = cc in
     let q : s ≡ rest = cc in
     (refl, sym p, sym q)
-range-read false start at s h = absurd (unread h)
+range-read false start at s h = unread h
 
 -- a 16-bit field that passes a test, the first of the record's body, and what followed it
 pub record Field {B : Type 0} (test : ℕ → Bool) (f : ℕ → Reader B) (start at n : ℕ) (s : List ℕ) (tree : B) (to : ℕ) (rest : List ℕ) : Type 0 where

@@ -1,5 +1,4 @@
 -- The number of steps of each form of statement. It does not depend on the nodes that the steps join.
--- Assumes nothing.
 use Prim.Native.Nat.{ℕ, suc, ◌+◌}
 use mathlib.Core.Path.{◌≡◌, refl, sym, ap, ap₂, ◌∙◌}
 use mathlib.Core.List.{[], ◌∷◌}

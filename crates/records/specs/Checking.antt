@@ -70,9 +70,9 @@ abbrev pub from : ℕ → List ℕ → List ℕ
 from i bytes = part i (length bytes) bytes
 
 -- a answered at these bytes at this offset; this reader goes on where it ended, and the steps of both count
-abbrev pub onward : {A : Type 0} → (steps : A → ℕ) (r : Reader A) (start at : ℕ) (bytes : List ℕ) (a : Answer) → Answer
-onward steps r start at bytes (Ok c) = added c.steps (outcome steps (r start c.end (from (c.end - at) bytes)))
-onward steps r start at bytes (Err e) = Err e
+abbrev pub checked_on : {A : Type 0} → (steps : A → ℕ) (r : Reader A) (start at : ℕ) (bytes : List ℕ) (a : Answer) → Answer
+checked_on steps r start at bytes (Ok c) = added c.steps (outcome steps (r start c.end (from (c.end - at) bytes)))
+checked_on steps r start at bytes (Err e) = Err e
 
 -- a 16-bit field that passes a test
 unfoldable pub ranged : (test : ℕ → Bool) → Reader ℕ

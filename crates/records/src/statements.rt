@@ -1,7 +1,7 @@
 // The check of a statement record.
 ghost use Rattle.std.specs.Prelude.{◌≡◌, false, length};
 ghost use Rattle.rules.specs.Reading.{expression, loop_set, statements, statement_body, statement};
-ghost use Rattle.records.specs.Checking.{outcome, of_part, no_steps, counted, onward, pair};
+ghost use Rattle.records.specs.Checking.{outcome, of_part, no_steps, counted, checked_on, pair};
 ghost use Rattle.records.specs.Counting.{step_count, block_count, for_head};
 
 use crate::answers::Checked;
@@ -52,7 +52,7 @@ fn check_body(b: Part, kind: usize, levels: usize, variables: usize) -> Result<C
 // A condition, which is two steps, and a statement: an if, a while, and the first part of an if-else.
 #[cycle(statement)]
 fn check_if(b: Part, levels: usize, variables: usize) -> Result<Checked, Fault>
-    ensures { result ≡ onward step_count (statement variables levels) b.entry.start b.entry.at b.entry.bytes.now (counted 2 (outcome no_steps (of_part (expression variables false levels) b.entry))) }
+    ensures { result ≡ checked_on step_count (statement variables levels) b.entry.start b.entry.at b.entry.bytes.now (counted 2 (outcome no_steps (of_part (expression variables false levels) b.entry))) }
 {
     let condition = check_value(b, levels, variables)?;
     let then = check_statement(b.after(condition), levels, variables)?;

@@ -8,7 +8,7 @@ use Rattle.rules.specs.Reading.{size_of, kind_of}
 use Rattle.records.specs.Checking.{ended}
 use Rattle.records.proofs.Readers.{handed}
 use Rattle.files.proofs.TreeLaws.{file-inside, file-outside, file-length, file-kind, file-ended}
-use Rattle.files.proofs.FieldLaws.{within}
+use borrow.Author.Rules.{rules}
 use Rattle.files.proofs.check_file.Goals.{then-not-contains-via-then-not-contains, then-not-contains-via-else-not-contains+then-u16_at-n}
 use Rattle.files.proofs.check_file.Goals as goal
 
@@ -16,7 +16,7 @@ pub returns-then-not-contains : goal.returns-then-not-contains
 unfolding size_of
 returns-then-not-contains c =
     let s = c.args.file.now in
-    let z : c.contains.result ≡ (leb 4 (length s) && leb (length s) 32768) = c.contains.ensures.value ∙ rw (c.new.ensures.start, c.new.ensures.end, c.new.ensures.exhausted) (within (length s) 4 32768) in
+    let z : c.contains.result ≡ (leb 4 (length s) && leb (length s) 32768) = search rules in
     rw c.refused.ensures (elim c.then-not-contains.branch [
       | then-not-contains-via-then-not-contains w ↦ file-outside s (sym z ∙ w.if-not-contains.true)
       | then-not-contains-via-else-not-contains+then-u16_at-n w ↦
@@ -28,7 +28,7 @@ pub returns-then-u16_at-number : goal.returns-then-u16_at-number
 unfolding kind_of size_of
 returns-then-u16_at-number c =
     let s = c.args.file.now in
-    let z : c.contains.result ≡ (leb 4 (length s) && leb (length s) 32768) = c.contains.ensures.value ∙ rw (c.new.ensures.start, c.new.ensures.end, c.new.ensures.exhausted) (within (length s) 4 32768) in
+    let z : c.contains.result ≡ (leb 4 (length s) && leb (length s) 32768) = search rules in
     let i = file-inside s (sym z ∙ c.if-not-contains.false) in
     let entire : size_of s ≡ length s = omega (arith, c.u16_at.ensures.0) in
     rw c.refused-then-u16_at-number.ensures (file-kind s i.0 i.1 entire (λ e. omega (arith, c.u16_at-2.ensures.0, c.number.ensures)))
@@ -37,7 +37,7 @@ pub returns-in_err-check_agreement : goal.returns-in_err-check_agreement
 unfolding kind_of size_of
 returns-in_err-check_agreement c =
     let s = c.args.file.now in
-    let z : c.contains.result ≡ (leb 4 (length s) && leb (length s) 32768) = c.contains.ensures.value ∙ rw (c.new.ensures.start, c.new.ensures.end, c.new.ensures.exhausted) (within (length s) 4 32768) in
+    let z : c.contains.result ≡ (leb 4 (length s) && leb (length s) 32768) = search rules in
     let i = file-inside s (sym z ∙ c.if-not-contains.false) in
     let b = c.body.ensures in
     let entire : size_of s ≡ length s = omega (arith, c.u16_at.ensures.0) in
@@ -48,7 +48,7 @@ pub returns : goal.returns
 unfolding kind_of size_of
 returns c =
     let s = c.args.file.now in
-    let z : c.contains.result ≡ (leb 4 (length s) && leb (length s) 32768) = c.contains.ensures.value ∙ rw (c.new.ensures.start, c.new.ensures.end, c.new.ensures.exhausted) (within (length s) 4 32768) in
+    let z : c.contains.result ≡ (leb 4 (length s) && leb (length s) 32768) = search rules in
     let i = file-inside s (sym z ∙ c.if-not-contains.false) in
     let b = c.body.ensures in
     let entire : size_of s ≡ length s = omega (arith, c.u16_at.ensures.0) in

@@ -1,7 +1,7 @@
 -- `field` meets its contract.
 use mathlib.Core.Path.{◌∙◌}
 use Rattle.records.proofs.Readers.{handed}
-use Rattle.files.specs.Answers.{field_answer}
+use Rattle.files.specs.FieldAnswers.{field_answer}
 use Rattle.files.proofs.FieldLaws.{field-refused, field-present}
 use Rattle.files.proofs.fields.field.Goals as goal
 

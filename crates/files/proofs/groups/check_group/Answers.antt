@@ -2,8 +2,8 @@
 use mathlib.Core.Bool.{true, false}
 use mathlib.Core.Path.{◌≡◌, sym, ap, ◌∙◌}
 use native.Mathlib.Omega.{arith}
-use Rattle.std.specs.Prelude.{ℕ, List, Ok, Err}
-use Rattle.rules.specs.Reading.{whole}
+use Rattle.std.specs.Prelude.{ℕ, ◌+◌, List, Ok, Err}
+use Rattle.rules.specs.Reading.{Reader, whole}
 use Rattle.records.specs.Kinds.{number_of}
 use Rattle.records.specs.declared.answers.Checked.{Checked}
 use Rattle.records.specs.declared.fault.Fault.{Fault}
@@ -12,26 +12,34 @@ use Rattle.records.specs.declared.part.Record.{Record}
 use Rattle.records.specs.Checking.{Answer, Opens, fault_at, outcome, of_part, ended}
 use Rattle.files.specs.Members.{member, itself, another, is_next}
 use Rattle.files.proofs.Steadies.{steady-member}
-use Rattle.files.proofs.GroupLaws.{Next, next-read, another-short, another-many, another-ended, rest-ends, rest-refuses, rest_goes}
-use Rattle.records.proofs.Readers.{handed}
+use Rattle.files.proofs.GroupLaws.{Next, next-read, another-nested, rest-ends, rest-refuses, rest_goes}
+use Rattle.grammar.proofs.Keeping.{keeps-any}
+use Rattle.records.proofs.Readers.{handed, nested-short, nested-deep, nested-ended}
 use Rattle.files.proofs.groups.check_group.Goals as goal
 
 module _ (s v a : ℕ) (names : List ℕ) (kind left : ℕ) (p : Part) where
-  -- one that is not whole, and one too many
-  short : {f : Fault} → (whole p.bytes.now ≡ false) × (f ≡ fault_at 2 p.at) → Err f ≡ outcome itself (of_part (another left (member s v a names kind)) p)
-  short h = rw h.1 (sym (ap (outcome itself) (another-short (member s v a names kind) p.start p.at p.bytes.now left h.0)))
+  abbrev body : Reader ℕ
+  body = member s v a names kind
 
-  many : {f : Fault} → left ≡ 0 → whole p.bytes.now ≡ true → f ≡ fault_at 4 p.at → Err f ≡ outcome itself (of_part (another left (member s v a names kind)) p)
-  many n w h = rw h (sym (ap (outcome itself) (another-many (member s v a names kind) p.start p.at p.bytes.now left n w)))
+  -- the answer on one more member
+  abbrev answer : Answer
+  answer = outcome itself (of_part (another left body) p)
+
+  -- one that is not whole, and one too many
+  short : {f : Fault} → (whole p.bytes.now ≡ false) × (f ≡ fault_at 2 p.at) → Err f ≡ answer
+  short h = rw h.1 (sym (nested-short itself (another-nested body) p left h.0))
+
+  many : {f : Fault} → left ≡ 0 → whole p.bytes.now ≡ true → f ≡ fault_at 4 p.at → Err f ≡ answer
+  many n w h = rw h (sym (nested-deep itself (another-nested body) p left n w))
 
   -- what is answered of a member, from the answer on its body
-  answered :
-      (left ≡ 0 → ⊥) → {r : Record} → Opens p r → {x : Answer} → x ≡ outcome itself (of_part (member s v a names kind) r.body) →
-      ended r.end x ≡ outcome itself (of_part (another left (member s v a names kind)) p)
-  answered n {r} o e = ap (ended r.end) e ∙ sym (another-ended (steady-member s v a names kind) left n p r o)
+  answered : (left ≡ 0 → ⊥) → {r : Record} → Opens p r → {x : Answer} → x ≡ outcome itself (of_part body r.body) → ended r.end x ≡ answer
+  answered n {r} o e =
+      ap (ended r.end) e
+      ∙ sym (nested-ended itself (another-nested body) p left n (λ _ file _ to. keeps-any ((steady-member s v a names kind).keeps file p.at (p.at + 4) to)) r o)
 
   -- the member that was read
-  one : {c : Checked} → Ok c ≡ outcome itself (of_part (another left (member s v a names kind)) p) → Next (member s v a names kind) left p.start p.at p.bytes.now c
+  one : {c : Checked} → Ok c ≡ answer → Next body left p.start p.at p.bytes.now c
   one h = next-read (steady-member s v a names kind) left p.start p.at p.bytes.now h
 
 pub returns-in_err-record : goal.returns-in_err-record

@@ -1,6 +1,6 @@
 -- `check_rule` meets its contract.
 use mathlib.Core.Path.{sym, ◌∙◌}
-use Rattle.records.proofs.Readers.{handed, reaches, no-steps, added_none}
+use Rattle.records.proofs.Readers.{handed, fits, no-steps, added_none}
 use Rattle.files.specs.Members.{names_in}
 use Rattle.files.proofs.Steadies.{steady-rule-head}
 use Rattle.files.proofs.MemberLaws.{rule-one, rule-other, rule-refused}
@@ -10,10 +10,7 @@ pub returns-in_err-head : goal.returns-in_err-head
 returns-in_err-head c = rw (handed _ _ c.from_residual.ensures) (rule-refused _ _ _ _ _ c.in_err-head.ensures)
 
 pub after-requires : goal.after-requires
-after-requires c =
-    let b = c.args.b in
-    let x = reaches (steady-rule-head (names_in 64 c.args.ts.now)) b.start b.at b.bytes.now c.in_ok-head.ensures in
-    (x.low, x.high)
+after-requires c = fits (steady-rule-head (names_in 64 c.args.ts.now)) c.args.b c.in_ok-head.ensures
 
 pub returns-then-half-eq1 : goal.returns-then-half-eq1
 returns-then-half-eq1 c =

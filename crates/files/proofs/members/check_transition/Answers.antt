@@ -3,7 +3,7 @@ use mathlib.Core.Bool.{false}
 use mathlib.Core.Path.{ap₂}
 use native.Mathlib.Omega.{arith}
 use Rattle.records.specs.Checking.{found}
-use Rattle.records.proofs.Readers.{handed, reaches}
+use Rattle.records.proofs.Readers.{handed, reaches, fits, fits-on}
 use Rattle.records.proofs.ExpressionLaws.{steady-expression}
 use Rattle.records.proofs.StatementLaws.{steady-statement}
 use Rattle.files.proofs.Steadies.{steady-transition-head}
@@ -14,10 +14,7 @@ pub returns-in_err-head : goal.returns-in_err-head
 returns-in_err-head c = rw (handed _ _ c.from_residual.ensures, transition-onward _ _ _ _ _, ← c.in_err-head.ensures)
 
 pub after-requires : goal.after-requires
-after-requires c =
-    let b = c.args.b in
-    let x = reaches (steady-transition-head c.args.states 0 (omega arith)) b.start b.at b.bytes.now c.in_ok-head.ensures in
-    (x.low, x.high)
+after-requires c = fits (steady-transition-head c.args.states 0 (omega arith)) c.args.b c.in_ok-head.ensures
 
 pub returns-in_err-guard : goal.returns-in_err-guard
 returns-in_err-guard c =
@@ -27,8 +24,7 @@ returns-in_err-guard c =
 pub after-requires-2 : goal.after-requires-2
 after-requires-2 c =
     let a = c.after in
-    let x = reaches (steady-expression c.args.variables false 14 0 (omega arith)) a.result.start a.result.at a.result.bytes.now c.in_ok-guard.ensures in
-    (omega (arith, x.low, a.ensures.goes), omega (arith, x.high, a.ensures.ends))
+    fits-on (steady-expression c.args.variables false 14) c.args.b a.result a.ensures.goes a.ensures.ends c.in_ok-guard.ensures
 
 pub returns-in_err-action : goal.returns-in_err-action
 returns-in_err-action c =
@@ -40,7 +36,7 @@ returns-in_err-action c =
 pub more-requires : goal.more-requires
 more-requires c =
     let d = c.after-2 in
-    let x = reaches (steady-statement c.args.variables 14) d.result.start d.result.at d.result.bytes.now c.in_ok-action.ensures in
+    let x = reaches (steady-statement c.args.variables 14) d.result c.in_ok-action.ensures in
     omega (arith, x.pays, x.high, d.ensures.ends, c.args.b.fits)
 
 pub returns : goal.returns

@@ -12,14 +12,16 @@ use Rattle.std.specs.Bool.{then_some}
 use borrow.Author.Rules.{rules}
 use Rattle.rules.specs.Reading.{size_of}
 use Rattle.records.specs.Checking.{length_of}
-use Rattle.records.proofs.Parts.{both, whole-record, length_none, length_some}
+use Rattle.laws.proofs.Basics.{both-true}
+use Rattle.grammar.proofs.Bytes.{whole-record}
+use Rattle.records.proofs.Parts.{length_none, length_some}
 use Rattle.records.proofs.bytes.record_len.Goals as goal
 
 module _ (s : List ℕ) (n : ℕ) where
   -- a length that may be is answered, and no other
   answered : (b : Bool) → n ≡ size_of s → b ≡ (leb 4 n && leb n (length s)) → then_some b n ≡ length_of s
   answered true e h =
-      let i = both (leb 4 n) (leb n (length s)) (sym h) in
+      let i = both-true (leb 4 n) (leb n (length s)) (sym h) in
       length_some s n e (leb-true _ _ i.0) (leb-true _ _ i.1)
   answered false e h =
       length_none s λ w.
@@ -29,7 +31,7 @@ module _ (s : List ℕ) (n : ℕ) where
 
   inside : (b : Bool) → b ≡ (leb 4 n && leb n (length s)) → IfSome (then_some b n) (λ n. (4 ≤ n) × (n ≤ length s))
   inside true h =
-      let i = both (leb 4 n) (leb n (length s)) (sym h) in
+      let i = both-true (leb 4 n) (leb n (length s)) (sym h) in
       (leb-true _ _ i.0, leb-true _ _ i.1)
   inside false h = tt
 

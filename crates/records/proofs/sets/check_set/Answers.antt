@@ -1,6 +1,6 @@
 -- `check_set` meets its contract.
 use Rattle.records.specs.Counting.{target}
-use Rattle.records.proofs.Readers.{handed, reaches, no-steps, added_none, steady-ranged}
+use Rattle.records.proofs.Readers.{handed, fits, no-steps, added_none, steady-ranged}
 use Rattle.records.proofs.StatementKinds.{set-onward}
 use Rattle.records.proofs.sets.check_set.Goals as goal
 
@@ -8,10 +8,7 @@ pub returns-in_err-target : goal.returns-in_err-target
 returns-in_err-target c = rw (handed _ _ c.from_residual.ensures, set-onward _ _ _ _ _, ← c.in_err-target.ensures)
 
 pub after-requires : goal.after-requires
-after-requires c =
-    let b = c.args.b in
-    let x = reaches (steady-ranged {k = 0} (target c.args.variables)) b.start b.at b.bytes.now c.in_ok-target.ensures in
-    (x.low, x.high)
+after-requires c = fits (steady-ranged (target c.args.variables)) c.args.b c.in_ok-target.ensures
 
 pub returns : goal.returns
 returns c =

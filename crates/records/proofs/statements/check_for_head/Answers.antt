@@ -1,7 +1,7 @@
 -- `check_for_head` meets its contract.
 use mathlib.Core.Bool.{false}
 use native.Mathlib.Omega.{arith}
-use Rattle.records.proofs.Readers.{handed, reaches, no-steps, added_none}
+use Rattle.records.proofs.Readers.{handed, fits, fits-on, no-steps, added_none}
 use Rattle.records.proofs.ExpressionLaws.{steady-expression}
 use Rattle.records.proofs.StatementLaws.{steady-loop-set}
 use Rattle.records.proofs.StatementKinds.{for-head}
@@ -11,10 +11,7 @@ pub returns-in_err-initial : goal.returns-in_err-initial
 returns-in_err-initial c = rw (handed _ _ c.from_residual.ensures, for-head _ _ _ _ _, ← c.in_err-initial.ensures)
 
 pub after-requires : goal.after-requires
-after-requires c =
-    let b = c.args.b in
-    let x = reaches (steady-loop-set c.args.variables c.args.levels 0 (omega arith)) b.start b.at b.bytes.now c.in_ok-initial.ensures in
-    (x.low, x.high)
+after-requires c = fits (steady-loop-set c.args.variables c.args.levels) c.args.b c.in_ok-initial.ensures
 
 pub returns-in_err-condition : goal.returns-in_err-condition
 returns-in_err-condition c =
@@ -24,8 +21,7 @@ returns-in_err-condition c =
 pub after-requires-2 : goal.after-requires-2
 after-requires-2 c =
     let a = c.after in
-    let x = reaches (steady-expression c.args.variables false c.args.levels 0 (omega arith)) a.result.start a.result.at a.result.bytes.now c.in_ok-condition.ensures in
-    (omega (arith, x.low, a.ensures.goes), omega (arith, x.high, a.ensures.ends))
+    fits-on (steady-expression c.args.variables false c.args.levels) c.args.b a.result a.ensures.goes a.ensures.ends c.in_ok-condition.ensures
 
 pub returns : goal.returns
 returns c =

@@ -2,7 +2,8 @@
 use lib.ListN.{length}
 use borrow.Author.Tests.{lt-leb}
 use Rattle.rules.specs.Reading.{kind_of}
-use Rattle.records.proofs.Parts.{has_all, has-few}
+use Rattle.grammar.proofs.Bytes.{has_all}
+use Rattle.records.proofs.Parts.{has-few}
 use Rattle.records.proofs.kind.Kind.comes.Goals as goal
 
 pub returns-then-s-ge4 : goal.returns-then-s-ge4

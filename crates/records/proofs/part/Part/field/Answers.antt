@@ -5,7 +5,8 @@ use native.Mathlib.Omega.{arith}
 use lib.ListN.{length-drop}
 use Rattle.rules.specs.Reading.{field}
 use Rattle.records.specs.Checking.{found}
-use Rattle.records.proofs.Parts.{has-few, has_all}
+use Rattle.grammar.proofs.Bytes.{has_all}
+use Rattle.records.proofs.Parts.{has-few}
 use Rattle.records.proofs.part.Part.field.Goals as goal
 
 pub returns-then-self-i : goal.returns-then-self-i
