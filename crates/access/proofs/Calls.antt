@@ -1,5 +1,4 @@
 -- An array that was made by calls of a closure that changes nothing, of any type.
--- Assumes nothing.
 use Prim.Native.Nat.{ℕ, zero, suc, ◌+◌, ◌<◌}
 use mathlib.Core.Path.{◌≡◌, refl, sym, subst}
 use mathlib.Core.List.{List}
@@ -11,7 +10,8 @@ use Rattle.std.specs.Array.{IsFromFnResult, IsFromFnResultFrom}
 module _ {F A : Type 0} (d : A) (g : Mut F (ℕ × Unit {0}) A) (f : F) (R : ℕ → A → Type 0)
     (h : (i : ℕ) (y : A) (q : F) → Called g f (i, tt) y q → R i y × (q ≡ f))
   where
-    made_from : (n i : ℕ) (ys : List A) (p : F) → p ≡ f → IsFromFnResultFrom g p ys i n → (k : ℕ) → k < n → R (i + k) (get_or ys (i + k) d)
+    made_from : (n i : ℕ) (ys : List A) (p : F) → p ≡ f → IsFromFnResultFrom g p ys i n
+        → (k : ℕ) → k < n → R (i + k) (get_or ys (i + k) d)
     made_from zero i ys p e t k l = absurd (omega arith)
     made_from (suc n) i ys p e t zero l =
         let one = h i t.1 t.0 (subst (λ (x : F). Called g x (i, tt) t.1 t.0) e t.3) in

@@ -1,99 +1,94 @@
 -- Laws of children of one kind in a row.
--- Assumes nothing.
-use Prim.Native.Nat.{ℕ, zero, suc, ◌+◌, ◌-◌, ◌≤◌, ◌<◌}
-use mathlib.Core.Path.{◌≡◌, refl, sym, ap, ap₂, ◌∙◌}
+use Prim.Native.Nat.{ℕ, zero, suc, ◌+◌, ◌≤◌, ◌<◌}
+use mathlib.Core.Path.{◌≡◌, refl, sym, ap, subst, ◌∙◌}
 use mathlib.Core.Bool.{true, false, false≢true}
-use mathlib.Core.List.{List, [], ◌∷◌}
+use mathlib.Core.List.{List, ◌∷◌}
 use native.Mathlib.Omega.{arith}
 use native.Mathlib.Numerals.{add-one}
-use lib.ListN.{length, take, drop, length-drop}
-use lib.Seq.{drop-drop}
-use Rattle.rules.specs.Basics.{part, number}
-use Rattle.rules.specs.Reading.{read, Reader, size_of, child, comes, group}
-use Rattle.records.specs.Checking.{no_steps}
-use Rattle.records.proofs.Readers.{Steady, refused-never, child-read, child-ends}
+use lib.ListN.{length, take, drop}
+use Rattle.rules.specs.Basics.{number}
+use Rattle.rules.specs.Reading.{Reader, size_of, child}
+use Rattle.grammar.proofs.Bytes.{part-all}
+use Rattle.grammar.proofs.Keeping.{Stored}
+use Rattle.grammar.proofs.Agreements.{comes_in, Row, done, member}
 use Rattle.access.specs.declared.Group.{Group}
 use Rattle.access.specs.Places.{past, Stands, InRow, comes_at, Children}
-use Rattle.access.proofs.Inside.{Gives, gives-read, gives_after, gives-if}
 
 -- ---- where the records stand
 
-pub past_next : (file : List ℕ) (at i : ℕ) → past file at (suc i) ≡ past file at i + size_of (drop (past file at i) file)
+past_next : (file : List ℕ) (at i : ℕ) → past file at (suc i) ≡ past file at i + size_of (drop (past file at i) file)
 unfolding past
 past_next file at zero = refl
 past_next file at (suc i) = past_next file (at + size_of (drop at file)) i
 
-pub past-within : (file : List ℕ) (at i n : ℕ) → at ≤ length file → InRow file at n → i ≤ n → past file at i ≤ length file
-unfolding past
-past-within file at zero n h row le = h
-past-within file at (suc i) n h row le = omega (arith, past_next file at i, (row i (omega arith)).high)
+pub stands : {A : Type 0} {r : Reader A} {file : List ℕ} {at to : ℕ} {a : A} → Stored file r at a to → Stands file at
+stands h = record { low = omega (arith, h.size, h.four); high = omega (arith, h.size, h.fits) }
 
 -- ---- what was read of them
 
-pub record Entry {A : Type 0} (kind : ℕ) (body : Reader A) (file : List ℕ) (at : ℕ) (x : A) : Type 0 where
-  pub stands : Stands file at
-  pub comes : comes_at kind file at ≡ true
-  pub to : ℕ
-  pub reads : body at (at + 4) (part 4 (size_of (drop at file)) (drop at file)) ≡ read x to []
+-- the i-th of these children, which stands at `at`, with what is known of it
+pub record Item
+    {A : Type 0} (P : ℕ → A → ℕ → Type 0) (kind : ℕ) (body : Reader A) (file : List ℕ) (at : ℕ) (xs : List A) (i : ℕ) : Type 0
+  where
+    pub value : A
+    pub end : ℕ
+    pub here : drop i xs ≡ value ∷ drop (suc i) xs
+    pub comes : comes_at kind file at ≡ true
+    pub stored : Stored file (child (λ _. body)) at value end
+    pub is : P at value end
 
--- the i-th of them
-pub record Nth {A : Type 0} (kind : ℕ) (body : Reader A) (file : List ℕ) (at : ℕ) (xs : List A) (i : ℕ) : Type 0 where
-  pub value : A
-  pub here : drop i xs ≡ value ∷ drop (suc i) xs
-  pub entry : Entry kind body file (past file at i) value
+-- a group's children, each at its place
+pub record Items
+    {A : Type 0} (P : ℕ → A → ℕ → Type 0) (most kind : ℕ) (body : Reader A) (file : List ℕ) (g : Group) (xs : List A) : Type 0
+  where
+    pub few : length xs ≤ most
+    pub counts : g.count ≡ length xs
+    pub begins : g.at ≤ length file
+    pub item : (i : ℕ) → i < g.count → Item P kind body file (past file g.at i) xs i
+    pub none : comes_at kind file (past file g.at g.count) ≡ false
+    pub ends : g.end ≡ past file g.at g.count
+    pub within : g.end ≤ length file
 
-pub record Grouped {A : Type 0} (most kind : ℕ) (body : Reader A) (file : List ℕ) (at : ℕ) (xs : List A) (to : ℕ) (rest : List ℕ) : Type 0 where
-  pub few : length xs ≤ most
-  pub nth : (i : ℕ) → i < length xs → Nth kind body file at xs i
-  pub ends : comes_at kind file (past file at (length xs)) ≡ false
-  pub goes : to ≡ past file at (length xs)
-  pub leaves : rest ≡ drop to file
+comes-all : (kind at : ℕ) (file : List ℕ) → comes_at kind file at ≡ comes_in file (length file) kind at
+unfolding comes_at comes_in
+comes-all kind at file = rw (part-all at file)
 
-module _ {A : Type 0} (kind : ℕ) (body : Reader A) (steady : Steady 4 no_steps body) (file : List ℕ) where
-  none_left : (most at : ℕ) → comes_at kind file at ≡ false → Grouped most kind body file at [] at (drop at file)
+module _ {A : Type 0} {P : ℕ → A → ℕ → Type 0} {kind : ℕ} {body : Reader A} {file : List ℕ} where
+  pub rowed : {most at to : ℕ} {xs : List A} → at ≤ length file → Row file (length file) kind body P most at xs to
+      → Items P most kind body file (record { at = at; count = length xs; end = to }) xs
   unfolding past
-  none_left most at c = record { few = omega arith; nth = λ i l. absurd (omega arith); ends = c; goes = refl; leaves = refl }
-
-  one_more :
-      (most at : ℕ) (x : A) {xs : List A} {to : ℕ} {rest : List ℕ} →
-      Entry kind body file at x →
-      Grouped most kind body file (at + size_of (drop at file)) xs to rest →
-      Grouped (suc most) kind body file at (x ∷ xs) to rest
-  unfolding past
-  one_more most at x {xs} e g =
-      record { few = omega (arith, g.few); nth = at_place; ends = g.ends; goes = g.goes; leaves = g.leaves }
+  rowed {at = at} h (done c) =
+      let none = comes-all kind at file ∙ c in
+      record { few = omega arith; counts = refl; begins = h; item = λ i l. absurd (omega arith); none = none; ends = refl; within = h }
+  rowed {at = at} h (member {most = most} {m = m} {to = to} {x = x} {xs = xs} c s p r) =
+      let g = subst (λ (k : ℕ). Items P most kind body file (record { at = k; count = length xs; end = to }) xs) s.size (rowed s.fits r) in
+      record { few = omega (arith, g.few); counts = refl; begins = h; item = at_place g; none = g.none; ends = g.ends; within = g.within }
     where
-      at_place : (i : ℕ) → i < length (x ∷ xs) → Nth kind body file at (x ∷ xs) i
-      at_place zero l = record { value = x; here = refl; entry = e }
-      at_place (suc i) l = let n = g.nth i (omega arith) in record { value = n.value; here = n.here; entry = n.entry }
+      at_place : Items P most kind body file (record { at = at + size_of (drop at file); count = length xs; end = to }) xs
+          → (i : ℕ) → i < suc (length xs) → Item P kind body file (past file at i) (x ∷ xs) i
+      at_place g zero l = record { value = x; end = m; here = refl; comes = comes-all kind at file ∙ c; stored = s; is = p }
+      at_place g (suc i) l =
+          let n = g.item i (omega arith) in
+          record { value = n.value; end = n.end; here = n.here; comes = n.comes; stored = n.stored; is = n.is }
 
-  pub group-read : (most start at : ℕ) → Gives (group most kind body start at (drop at file)) (λ xs to rest. Grouped most kind body file at xs to rest)
-  unfolding group comes comes_at
-  group-read zero start at =
-      gives-if (comes_at kind file at) _ _ start at (drop at file)
-      (λ c. record { when = λ e. absurd (refused-never 4 start at (drop at file) e) })
-      (λ c. gives-read [] at (drop at file) (none_left zero at c))
-  group-read (suc most) start at =
-      let s = drop at file in
-      let n = size_of s in
-      gives-if (comes_at kind file at) _ _ start at s
-      (λ c.
-      gives_after (child (λ _. body) start at s) _ λ x m l e.
-      let k = child-read (λ _. body) start at s e in
-      let w = child-ends (λ _. steady) start at s e in
-      let d : length s ≡ length file - at = length-drop at file in
-      let stands : Stands file at = record { low = k.long.low; high = omega (arith, k.long.low, k.long.high) } in
-      let entry : Entry kind body file at x = record { stands = stands; comes = c; to = m; reads = k.reads } in
-      let z : group most kind body start m l ≡ group most kind body start (at + n) (drop (at + n) file) =
-      ap₂ (group most kind body start) w.0 (w.1 ∙ drop-drop n at file) in
-      gives_after (group most kind body start m l) _ λ xs o r i.
-      gives-read (x ∷ xs) o r (one_more most at x entry ((group-read most start (at + n)).when (sym z ∙ i))))
-      (λ c. gives-read [] at s (none_left (suc most) at c))
+  module _ {most : ℕ} {g : Group} {xs : List A} (h : Items P most kind body file g xs) where
+    pub item-at : (i at : ℕ) → i < g.count → at ≡ past file g.at i → Item P kind body file at xs i
+    item-at i at less e = subst (λ (k : ℕ). Item P kind body file k xs i) (sym e) (h.item i less)
+
+    pub in-row : (i : ℕ) → i ≤ g.count → InRow file g.at i
+    in-row i le = λ k l. stands (h.item k (omega arith)).stored
+
+    unfoldable pub children : Children kind file g.at
+    children = record { count = g.count; within = h.begins; row = in-row g.count (omega arith); comes = λ i l. (h.item i l).comes; ends = h.none }
+
+    pub children-at : (at : ℕ) → at ≡ g.at → Children kind file at
+    children-at at e = subst (Children kind file) (sym e) children
 
 -- ---- what a loop over them goes by
 
 -- a record that stands at e, and its length n
-pub room : {file : List ℕ} (at i e n : ℕ) → e ≡ past file at i → n ≡ number (take 2 (drop e file)) → Stands file (past file at i) → (4 ≤ n) × (e + n ≤ length file)
+pub room : {file : List ℕ} (at i e n : ℕ) → e ≡ past file at i → n ≡ number (take 2 (drop e file)) → Stands file (past file at i)
+    → (4 ≤ n) × (e + n ≤ length file)
 unfolding size_of
 room {file} at i e n is m s =
     let z = ap (λ (k : ℕ). number (take 2 (drop k file))) is in
@@ -105,25 +100,23 @@ past_more file at i = rw add-one (past_next file at i)
 
 -- one record further
 pub further : (file : List ℕ) (at i e n : ℕ) → e ≡ past file at i → n ≡ number (take 2 (drop e file)) → e + n ≡ past file at (i + 1)
-unfolding size_of
 further file at i e n is m =
     let z = ap (λ (k : ℕ). number (take 2 (drop k file))) is in
-    rw add-one (omega (arith, past_next file at i))
+    omega (arith, past_more file at i)
 
 module _ {kind : ℕ} {file : List ℕ} {at : ℕ} (g : Children kind file at) (i e : ℕ) (is : e ≡ past file at i) (le : i ≤ g.count) where
   -- the kind comes, so this was not the last
   pub goes_on : true ≡ comes_at kind file e → i < g.count
-  goes_on h = less i g.count le λ z. false≢true (sym g.ends ∙ sym (ap (comes_at kind file) (is ∙ ap (past file at) z)) ∙ sym h)
-    where
-      less : (a b : ℕ) → a ≤ b → (a ≡ b → ⊥) → a < b
-      less a b h k = omega arith
+  goes_on h =
+      let more : i ≡ g.count → ⊥ = λ z. false≢true (sym g.ends ∙ sym (ap (comes_at kind file) (is ∙ ap (past file at) z)) ∙ sym h) in
+      omega arith
 
   pub stops : false ≡ comes_at kind file e → i ≡ g.count
-  stops h = equal i g.count le λ l. false≢true (h ∙ ap (comes_at kind file) is ∙ g.comes i l)
-    where
-      equal : (a b : ℕ) → a ≤ b → (a < b → ⊥) → a ≡ b
-      equal a b h k = omega arith
+  stops h =
+      let last : i < g.count → ⊥ = λ l. false≢true (h ∙ ap (comes_at kind file) is ∙ g.comes i l) in
+      omega arith
 
 -- the group that was found
-pub group-same : (at : ℕ) {i j e f : ℕ} → i ≡ j → e ≡ f → ◌≡◌ {A = Group} (record { at = at; count = i; end = e }) (record { at = at; count = j; end = f })
+pub group-same : (at : ℕ) {i j e f : ℕ} → i ≡ j → e ≡ f
+    → ◌≡◌ {A = Group} (record { at = at; count = i; end = e }) (record { at = at; count = j; end = f })
 group-same at p q = λ i. record { at = at; count = p i; end = q i }

@@ -1,9 +1,6 @@
 -- What the proofs of several functions, and of other crates, use.
-pub mod Inside
 pub mod Groups
 pub mod Heads
-pub mod Outside
-pub mod Bodies
 pub mod Trees
 pub mod Items
 pub mod Layouts

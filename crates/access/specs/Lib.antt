@@ -1,4 +1,4 @@
 -- What is known of a file whose tree has been read.
 pub mod Trees
 pub mod Places
-pub mod Answers
+pub mod FoundAnswers

@@ -42,7 +42,7 @@ action_at file at = at + (8 + size_of (drop (at + 8) file))
 -- ---- the parts of a file
 
 -- a group's children, read from its offset up to its end
-pub record Holds {A : Type 0} (most kind : ℕ) (body : Reader A) (file : List ℕ) (g : Group) (xs : List A) : Type 0 where
+pub record GroupHolds {A : Type 0} (most kind : ℕ) (body : Reader A) (file : List ℕ) (g : Group) (xs : List A) : Type 0 where
   pub reads : group most kind body 0 g.at (drop g.at file) ≡ read xs g.end (drop g.end file)
   pub counts : g.count ≡ length xs
 
@@ -53,9 +53,9 @@ pub record LaidOut (file : List ℕ) (a : Agreement) (l : Layout) : Type 0 where
   pub fallback :
       statement a.fields.variables 15 0 l.fallback (drop l.fallback file)
       ≡ read a.fallback l.transitions.at (drop l.transitions.at file)
-  pub transitions : Holds 64 2 (transition_body a.fields.variables a.fields.states) file l.transitions a.transitions
-  pub rows : Holds 16 3 (row_body a.fields.accounts) file l.rows a.rows
-  pub rules : Holds 8 4 (rule_body a.fields.variables (map (λ (t : Transition). t.name) a.transitions)) file l.rules a.rules
+  pub transitions : GroupHolds 64 2 (transition_body a.fields.variables a.fields.states) file l.transitions a.transitions
+  pub rows : GroupHolds 16 3 (row_body a.fields.accounts) file l.rows a.rows
+  pub rules : GroupHolds 8 4 (rule_body a.fields.variables (map (λ (t : Transition). t.name) a.transitions)) file l.rules a.rules
   pub rows_next : l.rows.at ≡ l.transitions.end
   pub rules_next : l.rules.at ≡ l.rows.end
   pub rules_last : l.rules.end ≡ length file

@@ -5,7 +5,7 @@ ghost use Rattle.std.proofs.Math.ListN.{get_elem?};
 ghost use Rattle.rules.specs.Calling.{no_call};
 ghost use Rattle.access.specs.Trees.{TreeRead};
 ghost use Rattle.access.specs.Places.{past};
-ghost use Rattle.access.specs.Answers.{rule_from};
+ghost use Rattle.access.specs.FoundAnswers.{rule_from};
 
 use crate::RuleAt;
 use crate::parsed::Parsed;

@@ -1,17 +1,17 @@
 // The fixed fields of a file.
 ghost use Rattle.std.specs.Prelude.{◌≡◌, ◌+◌, ◌*◌, ◌≤◌, length};
-ghost use Rattle.rules.specs.Basics.{sum as sum_of, padded};
+ghost use Rattle.rules.specs.Basics.{padded};
+ghost use Rattle.grammar.specs.Numbers.{numbers_at};
 ghost use Rattle.access.specs.Trees.{TreeRead};
-ghost use Rattle.access.specs.Answers.{numbers};
 
 use crate::parsed::Parsed;
 use records::bytes::{u16_at, u32_at};
-use rules::{Fields, sum};
+use rules::Fields;
 
 // The first n opening balances, then zeros.
 fn opening(file: &[u8], n: usize) -> [u32; 8]
     requires { (n ≤ 8) × (16 + 4 * n ≤ length file.now) }
-    ensures { result ≡ padded 8 (numbers n 16 file.now) }
+    ensures { result ≡ padded 8 (numbers_at n 16 file.now) }
 {
     std::array::from_fn(|i| if i < n { u32_at(file, 16 + 4 * i) } else { 0 })
 }
@@ -35,11 +35,4 @@ impl Parsed<'_> {
             opening,
         }
     }
-}
-
-// The sum of the opening balances.
-pub fn opening_sum(f: Fields) -> u64
-    ensures { result ≡ sum_of f.opening }
-{
-    sum(&f.opening)
 }

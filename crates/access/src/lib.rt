@@ -2,7 +2,7 @@
 // answer of a `Parsed` is an equation over that tree. This serves our own crates only.
 #![tactic(auto)]
 
-ghost use Rattle.access.specs.Answers.{Refuses};
+ghost use Rattle.access.specs.FoundAnswers.{Refuses};
 
 mod entries;
 pub mod fields;

@@ -5,7 +5,7 @@ ghost use Rattle.rules.specs.Accepting.{first_repeat};
 ghost use Rattle.rules.specs.Calling.{known, transition_of};
 ghost use Rattle.access.specs.Trees.{TreeRead};
 ghost use Rattle.access.specs.Places.{action_at};
-ghost use Rattle.access.specs.Answers.{found_of, same, repeat_of};
+ghost use Rattle.access.specs.FoundAnswers.{found_of, same, repeat_of};
 
 use crate::parsed::Parsed;
 use crate::{Elsewhere, Found};

@@ -1,5 +1,4 @@
 -- What reading answers of a file whose tree was read, and of one whose tree was refused.
--- Assumes nothing.
 use Rattle.std.specs.Prelude.{Ok, Err}
 use Prim.Native.Nat.{ℕ, ◌≤◌, ◌<◌}
 use mathlib.Core.Path.{◌≡◌}

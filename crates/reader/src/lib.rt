@@ -5,13 +5,12 @@ pub mod accepted;
 
 ghost use Rattle.std.specs.Prelude.{◌≡◌, ◌^◌, ◌<◌};
 ghost use Rattle.rules.specs.Accepting.{refusal_at, read_file};
-ghost use Rattle.reader.specs.Answers.{Accepts};
+ghost use Rattle.reader.specs.ReadAnswers.{Accepts};
 
 use crate::accepted::Accepted;
-use access::fields::opening_sum;
 use access::parsed::Parsed;
 use files::check_file;
-use rules::{Counted, Refusal};
+use rules::{Counted, Refusal, sum};
 
 // Any bytes: the refusal with its number and place, or the accepted file.
 pub fn accept(file: &[u8]) -> Result<Accepted<'_>, Refusal>
@@ -24,8 +23,7 @@ pub fn accept(file: &[u8]) -> Result<Accepted<'_>, Refusal>
     if let Some(place) = parsed.first_repeat() {
         return Err(refused(6, place));
     }
-    let sum = opening_sum(parsed.fields());
-    if u64::from(u32::MAX) < sum {
+    if u64::from(u32::MAX) < sum(&parsed.fields().opening) {
         return Err(Refusal::placeless(7));
     }
     if 1024 < steps {

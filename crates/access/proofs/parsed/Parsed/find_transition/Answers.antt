@@ -6,7 +6,7 @@ use native.Mathlib.Omega.{arith}
 use lib.ListN.{drop}
 use Rattle.access.specs.Trees.{TreeRead}
 use Rattle.access.specs.Places.{past}
-use Rattle.access.specs.Answers.{Found}
+use Rattle.access.specs.FoundAnswers.{Found}
 use Rattle.access.proofs.Kept.{laid-of}
 use Rattle.access.proofs.Groups.{further}
 use Rattle.access.proofs.Finding.{Here, here, all-passed, Left, find-all, find-here, find-other, find_none, find-end}
@@ -27,7 +27,8 @@ pub returns-then-from-state : goal.returns-then-from-state
 returns-then-from-state c =
     let v = (goal.at.returns-then-from-state c).In-loop in
     let s = v.args in
-    λ a. sym (v.loop.invariant.2 a ∙ find-here (one v a) s.name s.state (is_err v.loop.answer) c.if-file-at.true (sym c.from.ensures ∙ c.if-from-state.true))
+    let from = sym c.from.ensures ∙ c.if-from-state.true in
+    λ a. sym (v.loop.invariant.2 a ∙ find-here (one v a) s.name s.state (is_err v.loop.answer) c.if-file-at.true from)
 
 pub loop-preserved : goal.loop-preserved
 loop-preserved c =
@@ -51,7 +52,6 @@ loop-preserved c =
 
 pub returns : goal.returns
 returns c = λ a.
-    sym
-    (c.loop.invariant.2 a
-    ∙ find-end a.tree c.loop.counter c.args.name c.args.state (is_err c.loop.answer) (all-passed (laid-of c.args.self.now.laid) a c.loop.counter (omega arith))
-    ∙ c.loop.invariant.1)
+    let l = c.loop in
+    let passed = all-passed (laid-of c.args.self.now.laid) a l.counter (omega arith) in
+    sym (l.invariant.2 a ∙ find-end a.tree.transitions l.counter c.args.name c.args.state (is_err l.answer) passed ∙ l.invariant.1)

@@ -3,7 +3,7 @@ use mathlib.Core.Path.{refl, sym, ap, ◌∙◌}
 use native.Mathlib.Omega.{arith}
 use Rattle.access.specs.Trees.{TreeRead}
 use Rattle.access.specs.Places.{past}
-use Rattle.access.specs.Answers.{repeat_of}
+use Rattle.access.specs.FoundAnswers.{repeat_of}
 use Rattle.access.proofs.Kept.{laid-of}
 use Rattle.access.proofs.Groups.{further}
 use Rattle.access.proofs.Finding.{Here, here, all-passed, passed_none, repeat-here, repeat-next, repeat-end}

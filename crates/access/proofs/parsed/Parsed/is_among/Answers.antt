@@ -6,7 +6,7 @@ use lib.ListN.{take}
 use Rattle.rules.specs.Basics.{any}
 use Rattle.access.specs.Trees.{TreeRead}
 use Rattle.access.specs.Places.{past}
-use Rattle.access.specs.Answers.{same}
+use Rattle.access.specs.FoundAnswers.{same}
 use Rattle.access.proofs.Kept.{laid-of}
 use Rattle.access.proofs.Groups.{further}
 use Rattle.access.proofs.Finding.{Here, here, among-here, among-no-name, among-no-origin}
@@ -36,7 +36,8 @@ loop-preserved c =
       further s.self.now.file.now _ v.loop.counter v.loop.at c.u16_at-at.result v.loop.invariant.0 c.u16_at-at.ensures.0,
       λ a.
           elim c.else-file-at.branch [
-            | else-file-at-via-then-file-at+else-file-at-2 w ↦ among-no-origin (one v a) s.n s.name s.from w.if-file-at.true w.if-file-at-2.false (v.loop.invariant.1 a)
+            | else-file-at-via-then-file-at+else-file-at-2 w ↦
+                among-no-origin (one v a) s.n s.name s.from w.if-file-at.true w.if-file-at-2.false (v.loop.invariant.1 a)
             | else-file-at-via-else-file-at w ↦ among-no-name (one v a) s.n s.name s.from w.if-file-at.false (v.loop.invariant.1 a)
           ],
     )

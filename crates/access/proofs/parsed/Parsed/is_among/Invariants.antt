@@ -4,7 +4,7 @@ use Rattle.rules.specs.Basics.{any}
 use mathlib.Core.Bool.{false}
 use Rattle.access.specs.Trees.{TreeRead}
 use Rattle.access.specs.Places.{past}
-use Rattle.access.specs.Answers.{same}
+use Rattle.access.specs.FoundAnswers.{same}
 use Rattle.access.proofs.parsed.Parsed.is_among.Given as goal
 
 abbrev pub invariant-loop : goal.invariant-loop

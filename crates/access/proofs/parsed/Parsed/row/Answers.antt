@@ -1,11 +1,13 @@
 -- The numbers of the row's record.
 use mathlib.Core.Path.{sym}
-use Rattle.access.proofs.Kept.{laid-of}
-use Rattle.access.proofs.Items.{row_before, row_at}
+use native.Mathlib.Omega.{arith}
+use Rattle.access.proofs.Groups.{in-row}
+use Rattle.access.proofs.Kept.{laid-of, parts-of}
+use Rattle.access.proofs.Items.{row_at}
 use Rattle.access.proofs.parsed.Parsed.row.Goals as goal
 
 pub nth-at-requires : goal.nth-at-requires
-nth-at-requires c = row_before (laid-of c.args.self.now.laid) c.args.i c.requires
+nth-at-requires c = in-row (parts-of c.args.self.now.laid).rows c.args.i (omega arith)
 
 pub returns : goal.returns
 returns c =

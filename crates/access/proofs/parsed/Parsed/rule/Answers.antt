@@ -8,15 +8,15 @@ use lib.ListN.{get_or, get_elem?}
 use borrow.Author.Tests.{ne_eqb}
 use Rattle.access.specs.Trees.{TreeRead}
 use Rattle.access.specs.Places.{past}
-use Rattle.access.specs.Answers.{rule_from}
-use Rattle.access.proofs.Bodies.{rule_by}
-use Rattle.access.proofs.Kept.{laid-of}
-use Rattle.access.proofs.Items.{rule-before, rule-is}
+use Rattle.access.specs.FoundAnswers.{rule_from}
+use Rattle.access.proofs.Groups.{in-row}
+use Rattle.access.proofs.Kept.{laid-of, parts-of}
+use Rattle.access.proofs.Items.{rule_by, rule-is}
 use Rattle.access.proofs.parsed.Parsed.rule.Goals.{After-u16_at}
 use Rattle.access.proofs.parsed.Parsed.rule.Goals as goal
 
 pub nth-at-requires : goal.nth-at-requires
-nth-at-requires c = rule-before (laid-of c.args.self.now.laid) c.args.i c.requires
+nth-at-requires c = in-row (parts-of c.args.self.now.laid).rules c.args.i (omega arith)
 
 here :
     (c : After-u16_at) (a : TreeRead c.args.self.now.file.now) →

@@ -1,19 +1,13 @@
 -- What the functions answer, from the tree.
-use Rattle.std.specs.Prelude.{ℕ, zero, suc, ◌+◌, ◌≡◌, Bool, true, false, ◌&&◌, List, [], ◌∷◌, eqb, take, drop, Some, None, Result, Ok, Err}
+use Rattle.std.specs.Prelude.{ℕ, ◌+◌, ◌≡◌, Bool, true, false, ◌&&◌, eqb, Some, None, Result, Ok, Err}
 use Rattle.std.specs.Prelude
 use Rattle.std.proofs.Math.Option.{Option, none, some}
 use Rattle.rules.specs.declared.Refusal.{Refusal}
-use Rattle.rules.specs.Basics.{number}
 use Rattle.rules.specs.Syntax.{Transition, Rule, always, not_after, only_after}
 use Rattle.rules.specs.Accepting.{refusal}
 use Rattle.access.specs.declared.Elsewhere.{Elsewhere}
 use Rattle.access.specs.declared.RuleAt.{RuleAt}
 use Rattle.access.specs.declared.RuleAt.TheVariants.{Always, NotAfter, OnlyAfter}
-
--- k numbers of 32 bits, one after another from the b-th byte on
-unfoldable pub numbers : (k b : ℕ) (bytes : List ℕ) → List ℕ
-numbers zero b bytes = []
-numbers (suc k) b bytes = number (take 4 (drop b bytes)) ∷ numbers k (b + 4) bytes
 
 -- what is found of a name: an offset, or none where no transition bears the name
 abbrev pub Found : Type 0
