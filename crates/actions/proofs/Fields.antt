@@ -1,5 +1,4 @@
 -- A record's length and kind, as the code reads them.
--- Assumes nothing.
 use Prim.Native.Nat.{ℕ}
 use mathlib.Core.Path.{◌≡◌, sym, ◌∙◌}
 use mathlib.Core.List.{List}
@@ -11,11 +10,6 @@ pub long_is : (s : List ℕ) {n : ℕ} → n ≡ number (take 2 (drop 0 s)) → 
 unfolding size_of
 long_is s e = e
 
-module _ (s : List ℕ) {k : ℕ} (was : k ≡ number (take 2 (drop 2 s))) where
-  pub kind_is : {n : ℕ} → k ≡ n → kind_of s ≡ n
-  unfolding kind_of
-  kind_is h = sym was ∙ h
-
-  pub kind_not : {n : ℕ} → (k ≡ n → ⊥) → kind_of s ≡ n → ⊥
-  unfolding kind_of
-  kind_not h e = h (was ∙ e)
+pub kind_is : (s : List ℕ) {k : ℕ} → k ≡ number (take 2 (drop 2 s)) → {n : ℕ} → k ≡ n → kind_of s ≡ n
+unfolding kind_of
+kind_is s was h = sym was ∙ h

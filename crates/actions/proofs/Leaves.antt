@@ -1,14 +1,13 @@
 -- An expression with no parts: how long its record is, which place it names, and its value.
-use Rattle.std.proofs.Common.{◌≡◌, ℕ, ◌≤◌, ◌<◌, List, length, get_or, take, drop, refl, sym, ◌∙◌, arith}
+use Rattle.std.proofs.Common.{◌≡◌, ℕ, ◌≤◌, ◌<◌, List, length, get_or, take, drop, refl, arith}
 use Rattle.std.specs.Prelude.{Some, None}
 use Rattle.rules.specs.Basics.{number}
 use Rattle.rules.specs.Values.{View, evaluate}
 use Rattle.rules.specs.Reading.{kind_of}
 use Rattle.records.specs.Acceptance.{Accepted}
-use Rattle.records.specs.Kinds.{number_of}
-use Rattle.records.specs.declared.kind.Kind.{Kind}
+use Rattle.records.proofs.KindLaws.{done, ◌&◌, others}
 use Rattle.records.proofs.Accepts as laws
-use Rattle.actions.proofs.Fields.{kind_is, kind_not}
+use Rattle.actions.proofs.Fields.{kind_is}
 
 -- the kind, as the code reads it
 abbrev pub kind : List ℕ → ℕ
@@ -67,18 +66,12 @@ context_value w {s} a k = rw (laws.context-tree refl a (kind_is s refl k)).2
 -- there is no other kind with no parts
 pub other_value : (w : View) {s : List ℕ} (a : Accepted s) → (kind s ≡ 64 → ⊥) → (kind s ≡ 65 → ⊥) → (kind s ≡ 66 → ⊥)
     → (kind s ≡ 67 → ⊥) → (kind s ≡ 68 → ⊥) → (kind s ≡ 80 → ⊥) → (kind s ≡ 81 → ⊥) → evaluate w a.tree ≡ None
-other_value w {s} a b c d e f g h =
-    absurd
-    (laws.other-tree refl a (kind_not s refl b) (kind_not s refl c) (kind_not s refl d) (kind_not s refl e) (kind_not s refl f) (kind_not s refl g)
-    (kind_not s refl h))
+unfolding kind_of
+other_value w {s} a b c d e f g h = absurd (laws.other-tree refl a (others (b & c & d & e & f & g & h & done)))
 
 pub kind_read : (s : List ℕ) → kind_of s ≡ kind s
 unfolding kind_of
 kind_read s = refl
-
--- a number that is no kind's is not this one's
-pub no_kind : (s : List ℕ) {n : ℕ} → n ≡ kind s → ((k : Kind) → number_of k ≡ n → ⊥) → (k : Kind) → kind_of s ≡ number_of k → ⊥
-no_kind s e h k is = h k (sym is ∙ kind_read s ∙ sym e)
 
 pub ruleset leaf_bounds = (accepted_len, constant_len, variable_len, local_len, argument_len, context_len, variable_place, local_place, argument_place, context_place)
 

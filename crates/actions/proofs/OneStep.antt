@@ -22,9 +22,9 @@ pub charged_solvent : (l : ℕ) (m : Machine) {w : Machine} → going tt w ≡ c
 charged_solvent l m charged h = still-solvent (ran-keeps (Ok tt) _ charged (charge-keeps l m)) h
 
 -- the charge went through and left w
-module _ (c : Setting) (m : Machine) {l : ℕ} {w : Machine} (limit : l ≡ c.fields.limit) (charged : going tt w ≡ charge l m) where
-  is : charge c.fields.limit m ≡ going tt w
-  is = rw (← limit) (sym charged)
+module _ (c : Setting) (m : Machine) {w : Machine} (charged : going tt w ≡ charge c.limit m) where
+  is : charge c.limit m ≡ going tt w
+  is = sym charged
 
   pub condition_does : {s : List ℕ} {v : Value} → ((a : Accepted s) → v ≡ evaluate (view c w) a.tree) → (a : Accepted s) → test_value v w ≡ condition c a.tree m
   condition_does h a = sym (condition-tests c m is _ _ (h a))
@@ -37,12 +37,12 @@ module _ (c : Setting) (m : Machine) {l : ℕ} {w : Machine} (limit : l ≡ c.fi
         → (a : GoodSimple s) → assign_value q v w ≡ perform c a.tree m
     set_does i e h a = let p = laws.set-tree (long_is s long) a (kind_is s was i) in rw (p.is, perform-set c m is _ _ _ (h p.child), e)
 
-    pub transfer_does : {q accounts : ℕ} {u v : Value} → k ≡ 17 → q ≡ first s → accounts ≡ c.fields.accounts
+    pub transfer_does : {q : ℕ} {u v : Value} → k ≡ 17 → q ≡ first s
         → ((e : Accepted (part 4 n s)) → u ≡ evaluate (view c w) e.tree) → ((e : Accepted (part (4 + q) n s)) → v ≡ evaluate (view c w) e.tree)
-        → (a : GoodSimple s) → pay_values accounts u v w ≡ perform c a.tree m
-    transfer_does i e f g h a =
+        → (a : GoodSimple s) → pay_values c.accounts u v w ≡ perform c a.tree m
+    transfer_does i e g h a =
         let p = laws.transfer-tree (long_is s long) a (kind_is s was i) _ e in
-        rw (p.is, perform-transfer c m is _ _ _ _ (g p.account) (h p.amount), f)
+        rw (p.is, perform-transfer c m is _ _ _ _ (g p.account) (h p.amount))
 
     pub require_does : {v : Value} → k ≡ 18 → ((e : Accepted (part 4 n s)) → v ≡ evaluate (view c w) e.tree)
         → (a : GoodSimple s) → demand_value 25 25 v w ≡ perform c a.tree m
@@ -53,9 +53,9 @@ module _ (c : Setting) (m : Machine) {l : ℕ} {w : Machine} (limit : l ≡ c.fi
     return_does i h a = let p = laws.return-tree (long_is s long) a (kind_is s was i) in rw (p.is, perform-return c m is _ _ (h p.child))
 
 -- the charge was refused: what the exit of its `?` returns
-module _ (c : Setting) (m w : Machine) (e : Stop) {l : ℕ} (limit : l ≡ c.fields.limit) (refused : stopped_by e w ≡ charge l m) where
-  out : charge c.fields.limit m ≡ stopped_by e w
-  out = rw (← limit) (sym refused)
+module _ (c : Setting) (m w : Machine) (e : Stop) (refused : stopped_by e w ≡ charge c.limit m) where
+  out : charge c.limit m ≡ stopped_by e w
+  out = sym refused
 
   pub perform_stops : {s : List ℕ} (r : Result (Unit {0}) Stop) → IsErrAnd r (λ y. y ≡ e) → (a : GoodSimple s) → ran r w ≡ perform c a.tree m
   perform_stops r h a = ran_err e r w h ∙ sym (perform-ends c m e w out a.tree)

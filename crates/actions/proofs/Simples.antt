@@ -1,16 +1,14 @@
 -- A set, transfer, require or return: how long its record and its parts are, and what it does.
-use Rattle.std.proofs.Common.{◌≡◌, ℕ, ◌+◌, ◌≤◌, ◌<◌, Bool, true, false, ltb, List, length, take, drop, refl, arith}
+use Rattle.std.proofs.Common.{◌≡◌, ℕ, ◌+◌, ◌≤◌, Bool, true, false, ltb, List, length, take, drop, refl, arith}
 use Rattle.rules.specs.Basics.{number, part}
 use Rattle.records.specs.Acceptance.{Accepted, GoodSimple}
-use Rattle.records.specs.Kinds.{number_of}
-use Rattle.records.specs.declared.kind.Kind.{Kind}
-use Rattle.records.specs.declared.kind.Kind.TheVariants.{Set, Transfer, Require, Return}
+use Rattle.records.proofs.KindLaws.{Others, step_kinds}
 use Rattle.records.proofs.Simples as laws
 use mathlib.Core.Logic.{inl, inr}
 use borrow.Author.Tests.{ltb-true, ltb-false}
 use Rattle.machine.specs.Runs.{Target}
-use Rattle.actions.proofs.Fields.{long_is, kind_is, kind_not}
-use Rattle.actions.proofs.Leaves.{kind, no_kind}
+use Rattle.actions.proofs.Fields.{long_is, kind_is}
+use Rattle.actions.proofs.Leaves.{kind}
 use Rattle.actions.proofs.Operations.{size}
 
 -- the first 16-bit field, as the code reads it: a set's target, or the size of a transfer's account
@@ -66,12 +64,8 @@ required_is {s} a k = (laws.require-tree (long_is s refl) a (kind_is s refl k)).
 pub returned_is : {s : List ℕ} → GoodSimple s → kind s ≡ 19 → Accepted (part 4 (size s) s)
 returned_is {s} a k = (laws.return-tree (long_is s refl) a (kind_is s refl k)).child
 
--- there is no other kind: a record of one would be shorter than its head
-pub simple_other : (s : List ℕ) → GoodSimple s → (kind s ≡ 16 → ⊥) → (kind s ≡ 17 → ⊥) → (kind s ≡ 18 → ⊥) → (kind s ≡ 19 → ⊥) → size s < 4
-simple_other s a b c d e =
-    absurd (laws.other-tree (long_is s refl) a (kind_not s refl b) (kind_not s refl c) (kind_not s refl d) (kind_not s refl e))
+-- there is no other kind
+pub no_other : {s : List ℕ} {k : ℕ} → GoodSimple s → k ≡ kind s → Others k step_kinds → ⊥
+no_other {s} a e h = laws.other-tree refl a (rw (← kind_is s e refl) at h)
 
-pub unknown_simple : {s : List ℕ} {n : ℕ} → GoodSimple s → n ≡ kind s → ((k : Kind) → number_of k ≡ n → ⊥) → ⊥
-unknown_simple {s} a e h = laws.other-tree (long_is s refl) a (no_kind s e h Set) (no_kind s e h Transfer) (no_kind s e h Require) (no_kind s e h Return)
-
-pub ruleset simples = (simple_other, simple_len, simple_low, simple_high, set_low, set_value, set_target, transfer_low, transfer_fits, account_is, amount_is, required_is, returned_is)
+pub ruleset simples = (simple_len, simple_low, simple_high, set_low, set_value, set_target, transfer_low, transfer_fits, account_is, amount_is, required_is, returned_is)

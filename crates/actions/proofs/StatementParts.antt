@@ -1,17 +1,14 @@
 -- A statement's record: how long it and its parts are, and what its parts hold.
-use Rattle.std.proofs.Common.{◌≡◌, ℕ, ◌+◌, ◌≤◌, Bool, true, false, eqb, List, length, take, drop, refl, arith}
-use borrow.Author.Tests.{eqb-true, eqb-false}
+use Rattle.std.proofs.Common.{◌≡◌, ℕ, ◌+◌, ◌≤◌, List, length, take, drop, refl, arith}
 use Rattle.rules.specs.Basics.{number, part}
 use Rattle.rules.specs.Syntax.{if_then, while}
 use Rattle.rules.specs.Reading.{kind_of}
 use Rattle.records.specs.Acceptance.{Accepted, GoodSimple, Good, GoodAll}
-use Rattle.records.specs.Kinds.{number_of}
-use Rattle.records.specs.declared.kind.Kind.{Kind}
-use Rattle.records.specs.declared.kind.Kind.TheVariants.{Block, If, IfElse, While, For}
+use Rattle.records.proofs.KindLaws.{Others, part_kinds}
 use Rattle.records.proofs.Goods as laws
 use Rattle.records.proofs.Goods.{OneStep, Conditional, Alternative, Repetition, set-step}
 use Rattle.actions.proofs.Fields.{long_is, kind_is}
-use Rattle.actions.proofs.Leaves.{kind, kind_read, no_kind}
+use Rattle.actions.proofs.Leaves.{kind, kind_read}
 use Rattle.actions.proofs.Operations.{size}
 use Rattle.actions.proofs.Simples.{first}
 
@@ -126,24 +123,8 @@ pub ruleset whiles = (sizes, while_low, while_fits, while_test, while_body)
 
 pub ruleset fors = (sizes, for_low, for_second, for_third, for_fits, for_initial, for_test, for_closing, for_body)
 
--- no kind with statements in it
-abbrev pub Others : List ℕ → Type 0
-Others s = (kind_of s ≡ 32 → ⊥) × (kind_of s ≡ 33 → ⊥) × (kind_of s ≡ 34 → ⊥) × (kind_of s ≡ 35 → ⊥) × (kind_of s ≡ 36 → ⊥)
-
-pub unknown_others : (s : List ℕ) {n : ℕ} → n ≡ kind s → ((k : Kind) → number_of k ≡ n → ⊥) → Others s
-unknown_others s e h = (no_kind s e h Block, no_kind s e h If, no_kind s e h IfElse, no_kind s e h While, no_kind s e h For)
-
--- a statement of such a kind is of one step
-pub one_step : {s : List ℕ} (a : Good s) → Others s → OneStep s a.at a.tree
-one_step {s} a h =
-    by 16 (laws.set-one refl a) λ i. by 17 (laws.transfer-one refl a) λ j. by 18 (laws.require-one refl a) λ k. by 19 (laws.return-one refl a) λ l.
-    absurd (laws.other-tree refl a i j k l h.0 h.1 h.2 h.3 h.4)
-  where
-    by : (k : ℕ) → (kind_of s ≡ k → OneStep s a.at a.tree) → ((kind_of s ≡ k → ⊥) → OneStep s a.at a.tree) → OneStep s a.at a.tree
-    by k is not = go (eqb (kind_of s) k) refl
-      where
-        go : (b : Bool) → eqb (kind_of s) k ≡ b → OneStep s a.at a.tree
-        go true h = is (eqb-true _ _ h)
-        go false h = not (eqb-false _ _ h)
+-- a statement of another kind than those with parts is of one step
+pub one_step : {s : List ℕ} {k : ℕ} (a : Good s) → k ≡ kind s → Others k part_kinds → OneStep s a.at a.tree
+one_step {s} a e h = laws.one-step refl a (rw (← kind_is s e refl) at h)
 
 pub ruleset kinds = (sizes, block_is)

@@ -37,7 +37,7 @@ pub fn test(s: &[u8], m: &mut Machine, setting: &Setting) -> Result<bool, Stop>
     requires { Accepted s.now }
     ensures { (a : Accepted s.now) → ran result m.new ≡ condition setting.now a.tree m.old }
 {
-    charge(m, u32::from(setting.fields.limit))?;
+    charge(m, setting.limit)?;
     run::test(value(s, m, setting))
 }
 
@@ -46,17 +46,17 @@ pub fn guard(s: &[u8], m: &mut Machine, setting: &Setting) -> Result<(), Stop>
     requires { Accepted s.now }
     ensures { (a : Accepted s.now) → ran result m.new ≡ guarded setting.now a.tree m.old }
 {
-    charge(m, u32::from(setting.fields.limit))?;
+    charge(m, setting.limit)?;
     run::guard(value(s, m, setting))
 }
 
 // A set, transfer, require or return, whose record is s.
 #[tactic(auto, using(crate::proofs::Simples::simples))]
 pub fn perform(s: &[u8], m: &mut Machine, setting: &Setting) -> Result<(), Stop>
-    requires { GoodSimple s.now × Funded setting.now.fields.accounts m.old }
+    requires { GoodSimple s.now × Funded setting.now.accounts m.old }
     ensures { (a : GoodSimple s.now) → ran result m.new ≡ performed setting.now a.tree m.old }
 {
-    charge(m, u32::from(setting.fields.limit))?;
+    charge(m, setting.limit)?;
     let end = u16_at(s, 0);
     match Kind::try_from(u16_at(s, 2)) {
         Ok(Kind::Set) => {
@@ -67,7 +67,7 @@ pub fn perform(s: &[u8], m: &mut Machine, setting: &Setting) -> Result<(), Stop>
             let k = 4 + u16_at(s, 4);
             let account = value(&s[4..end], m, setting);
             let amount = value(&s[k..end], m, setting);
-            pay_values(m, usize::from(setting.fields.accounts), account, amount)
+            pay_values(m, setting.accounts, account, amount)
         }
         Ok(Kind::Require) => require(value(&s[4..end], m, setting)),
         Ok(Kind::Return) => {

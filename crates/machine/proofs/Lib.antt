@@ -5,5 +5,4 @@ pub mod Runs
 pub mod Performing
 pub mod Keeping
 pub mod States
-pub mod Lengths
 pub mod Calls

@@ -11,19 +11,19 @@ use Rattle.machine.specs.Runs.{stopped_by, assign_value, pay_values, answer_valu
 use Rattle.machine.proofs.Runs.{after_stop}
 
 -- The charge went through and left w.
-module _ (c : Setting) (m : Machine) {w : Machine} (charged : charge c.fields.limit m ≡ going tt w) where
+module _ (c : Setting) (m : Machine) {w : Machine} (charged : charge c.limit m ≡ going tt w) where
   pub perform-set : (t : ℕ) (e : Expr) (v : Value) → v ≡ evaluate (view c w) e → perform c (set t e) m ≡ assign_value t v w
   unfolding perform value assign_value
   perform-set t e v h = rw (charged, h)
 
   pub perform-transfer : (k e : Expr) (i v : Value) → i ≡ evaluate (view c w) k → v ≡ evaluate (view c w) e
-      → perform c (transfer k e) m ≡ pay_values c.fields.accounts i v w
+      → perform c (transfer k e) m ≡ pay_values c.accounts i v w
   unfolding perform value pay_values or_stop
   perform-transfer k e i v g h = rw (charged, g, h) (go (evaluate (view c w) k))
     where
       go : (u : Value) →
-          after (or_stop 25 u w) (λ i n. after (or_stop 25 (evaluate (view c n) e) n) (pay c.fields.accounts i))
-          ≡ after (or_stop 25 u w) (λ i n. after (or_stop 25 (evaluate (view c w) e) n) (pay c.fields.accounts i))
+          after (or_stop 25 u w) (λ i n. after (or_stop 25 (evaluate (view c n) e) n) (pay c.accounts i))
+          ≡ after (or_stop 25 u w) (λ i n. after (or_stop 25 (evaluate (view c w) e) n) (pay c.accounts i))
       go (Some x) = refl
       go None = refl
 
@@ -44,7 +44,7 @@ module _ (c : Setting) (m : Machine) {w : Machine} (charged : charge c.fields.li
   guarded-demands e v h = rw (charged, h)
 
 -- The charge was refused, which ends the run.
-module _ (c : Setting) (m : Machine) (e : Stop) (w : Machine) (refused : charge c.fields.limit m ≡ stopped_by e w) where
+module _ (c : Setting) (m : Machine) (e : Stop) (w : Machine) (refused : charge c.limit m ≡ stopped_by e w) where
   pub perform-ends : (x : Simple) → perform c x m ≡ stopped_by e w
   unfolding perform
   perform-ends (set t x) = rw (refused, after_stop)

@@ -1,5 +1,5 @@
 -- The value of an operation, from those of its operands.
-use Rattle.std.proofs.Common.{sym, ◌∙◌, arith}
+use Rattle.std.proofs.Common.{sym, ◌∙◌}
 use Rattle.actions.proofs.Operations.{left_failed, right_failed, applied, not_failed, not_applied}
 use Rattle.actions.proofs.expressions.+operand.Goals as goal
 

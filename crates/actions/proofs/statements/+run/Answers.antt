@@ -1,12 +1,13 @@
 -- The functions of a statement: what each hands on to its parts, and what the whole does.
 use Rattle.std.proofs.Common.{arith, refl, sym, ◌∙◌}
-use Rattle.records.proofs.Parts.{from-drop, from-length}
+use Rattle.grammar.proofs.Bytes.{part-all}
+use Rattle.records.proofs.Parts.{from-length}
+use Rattle.records.proofs.KindLaws.{done, ◌&◌, Others, others, other-number, part_kinds}
 use Rattle.records.proofs.GoodBlocks.{moved, turn}
 use Rattle.machine.proofs.Runs.{ran_err}
 use Rattle.machine.proofs.Keeping.{still-funded, kept_same}
 use Rattle.actions.proofs.Fields.{long_is, kind_is}
-use Rattle.actions.proofs.Leaves.{kind_read}
-use Rattle.actions.proofs.StatementParts.{ifs, elses, whiles, fors, Others, unknown_others, one_step}
+use Rattle.actions.proofs.StatementParts.{ifs, elses, whiles, fors, one_step}
 use Rattle.actions.proofs.Runs.{performed_kept, ran_kept, tested_kept, turn_kept, turn_less, closed_kept, closed_less}
 use Rattle.actions.proofs.Blocks.{left, rest_good, rest_over, turn_rest, turn_stops}
 use Rattle.actions.proofs.Branches.{block_runs, step_runs, if_stops, if_holds, if_not, else_stops, else_holds, else_not}
@@ -21,19 +22,19 @@ run_statement-returns-in-Ok-Block t c = block_runs _ _ _ c.u16_at-end.ensures.0 
 
 pub run_statement-perform-requires : goal.run_statement-perform-requires
 run_statement-perform-requires t c =
-    let h : Others c.args.s.now = elim c.in_default.branch [
-      | run_statement-in_default-via-in-Ok+in_default w ↦ grind (arith, kind_read)
-      | run_statement-in_default-via-in_default w ↦ unknown_others c.args.s.now c.u16_at.ensures.0 (rw w.in_default.is at c.try_from.ensures)
+    let h : Others c.u16_at.result part_kinds = elim c.in_default.branch [
+      | run_statement-in_default-via-in-Ok+in_default w ↦ others (search (arith, ◌&◌, done))
+      | run_statement-in_default-via-in_default w ↦ other-number (rw w.in_default.is at c.try_from.ensures) part_kinds
     ] in
-    ((one_step c.requires.0 h).step, c.requires.1)
+    ((one_step c.requires.0 c.u16_at.ensures.0 h).step, c.requires.1)
 
 pub run_statement-returns-in_default : goal.run_statement-returns-in_default
 run_statement-returns-in_default t c =
-    let h : Others c.args.s.now = elim c.in_default.branch [
-      | run_statement-in_default-via-in-Ok+in_default w ↦ grind (arith, kind_read)
-      | run_statement-in_default-via-in_default w ↦ unknown_others c.args.s.now c.u16_at.ensures.0 (rw w.in_default.is at c.try_from.ensures)
+    let h : Others c.u16_at.result part_kinds = elim c.in_default.branch [
+      | run_statement-in_default-via-in-Ok+in_default w ↦ others (search (arith, ◌&◌, done))
+      | run_statement-in_default-via-in_default w ↦ other-number (rw w.in_default.is at c.try_from.ensures) part_kinds
     ] in
-    λ a. step_runs _ _ _ a (one_step a h) c.perform.ensures
+    λ a. step_runs _ _ _ a (one_step a c.u16_at.ensures.0 h) c.perform.ensures
 
 -- `run_if`
 
@@ -108,7 +109,7 @@ run_for-returns t c =
 -- `run_block`
 
 pub run_block-loop-i-init : goal.run_block-loop-i-init
-run_block-loop-i-init t c = (kept_same _ _, λ a. left (moved (sym (from-drop 0 _)) a) refl)
+run_block-loop-i-init t c = (kept_same _ _, λ a. left (moved (sym (part-all 0 _)) a) refl)
 
 pub run_block-run_statement-requires : goal.run_block-run_statement-requires
 run_block-run_statement-requires t c =

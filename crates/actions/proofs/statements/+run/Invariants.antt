@@ -29,7 +29,7 @@ decreases-run_turns l = 2 * length l.body.now + 2
 
 abbrev pub invariant-run_block-loop-i : goal.invariant-run_block-loop-i
 invariant-run_block-loop-i l =
-    Kept l.setting.fields.limit l.initial.m l.m
+    Kept l.setting.limit l.initial.m l.m
     × ((a : GoodAll l.s) → Rest l.setting l.s l.i l.m (statements l.setting a.tree l.initial.m))
 
 abbrev pub decreases-run_block-loop-i : goal.decreases-run_block-loop-i
@@ -37,22 +37,22 @@ decreases-run_block-loop-i l = length l.s - l.i
 
 abbrev pub invariant-run_while-loop-m : goal.invariant-run_while-loop-m
 invariant-run_while-loop-m l =
-    Kept l.setting.fields.limit l.initial.m l.m
+    Kept l.setting.limit l.initial.m l.m
     × ((a : Accepted l.condition) (b : Good l.body)
     → repeat l.setting (condition l.setting a.tree) (statement l.setting b.tree) l.initial.m
     ≡ repeat l.setting (condition l.setting a.tree) (statement l.setting b.tree) l.m)
 
 -- a turn charges a unit
 abbrev pub decreases-run_while-loop-m : goal.decreases-run_while-loop-m
-decreases-run_while-loop-m l = l.setting.fields.limit - l.m.units
+decreases-run_while-loop-m l = l.setting.limit - l.m.units
 
 abbrev pub invariant-run_turns-loop-m : goal.invariant-run_turns-loop-m
 invariant-run_turns-loop-m l =
-    Kept l.setting.fields.limit l.initial.m l.m
+    Kept l.setting.limit l.initial.m l.m
     × ((a : Accepted l.condition) (k : GoodSimple l.closing) (b : Good l.body)
     → repeat l.setting (condition l.setting a.tree) (statement l.setting b.tree >> perform l.setting k.tree) l.initial.m
     ≡ repeat l.setting (condition l.setting a.tree) (statement l.setting b.tree >> perform l.setting k.tree) l.m)
 
 -- a turn charges a unit
 abbrev pub decreases-run_turns-loop-m : goal.decreases-run_turns-loop-m
-decreases-run_turns-loop-m l = l.setting.fields.limit - l.m.units
+decreases-run_turns-loop-m l = l.setting.limit - l.m.units
