@@ -1,5 +1,4 @@
 -- Words compared with an expansion.
--- Assumes nothing.
 use Prim.Native.Nat.{ℕ, ◌*◌}
 use mathlib.Core.Path.{◌≡◌, refl, ap}
 use mathlib.Core.Bool.{Bool, ◌&&◌}
@@ -14,7 +13,7 @@ use Rattle.rules.specs.Syntax.{Agreement}
 use Rattle.rules.specs.Expanding.{expansion, table}
 use Rattle.rules.specs.Accepting.{written}
 use Rattle.rules.specs.Stepping.{begins_with}
-use Rattle.expander.proofs.Words.{table-length}
+use Rattle.laws.proofs.Tables.{table-length}
 
 -- ---- whether words begin with others
 

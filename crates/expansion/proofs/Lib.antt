@@ -3,4 +3,4 @@ pub mod Files
 pub mod Actions
 pub mod Transitions
 pub mod Beginning
-pub mod Answers
+pub mod ExpandAnswers

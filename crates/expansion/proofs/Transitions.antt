@@ -1,11 +1,10 @@
 -- A walk through the transitions of an accepted file, whose steps are written one transition after another.
--- Assumes nothing.
 use Prim.Native.Nat.{ℕ, suc, ◌+◌, ◌*◌, ◌^◌, ◌≤◌, ◌<◌}
-use mathlib.Core.Path.{◌≡◌, refl, sym, ap, subst, ◌∙◌}
+use mathlib.Core.Path.{◌≡◌, refl, sym, ap, ◌∙◌}
 use mathlib.Core.List.{List, [], ◌∷◌, ◌++◌, append_assoc, append-nil}
 use native.Mathlib.Omega.{arith}
 use native.Mathlib.Numerals.{add-one}
-use lib.ListN.{length, take, drop, length-append, length-drop}
+use lib.ListN.{length, take, drop, length-append}
 use Rattle.rules.specs.Basics.{number}
 use Rattle.rules.specs.Syntax.{Transition, Agreement}
 use Rattle.rules.specs.Reading.{size_of, child, transition_body}
@@ -13,22 +12,20 @@ use Rattle.rules.specs.Expanding.{Step, made, expand_transitions, expansion, fir
 use Rattle.rules.specs.Accepting.{written}
 use Rattle.records.specs.Checking.{from}
 use Rattle.records.specs.Counting.{step_count}
-use Rattle.records.proofs.Parts.{from-drop, from-length, is_whole}
-use Rattle.records.proofs.Readers.{child-reads}
+use Rattle.grammar.proofs.Bytes.{part-all}
+use Rattle.records.proofs.Parts.{from-length}
 use Rattle.access.specs.declared.Layout.{Layout}
 use Rattle.access.specs.Trees.{TreeRead, AcceptedFile}
 use Rattle.access.specs.Places.{past, Laid}
-use Rattle.access.proofs.Groups.{Entry, group-read}
-use Rattle.access.proofs.Bodies.{steady-transition}
-use Rattle.access.proofs.Items.{laid}
-use Rattle.access.proofs.Finding.{transition_fits, transition_ends}
+use Rattle.access.proofs.Groups.{stands}
+use Rattle.access.proofs.Finding.{here}
 use Rattle.access.proofs.Using.{tree-bounds, tree_of, few-steps}
-use Rattle.expander.specs.declared.Next.{Next}
-use Rattle.expander.specs.Writing.{over, Wrote}
-use Rattle.expander.specs.Transitions.{GoodTransition, transition_steps, TransitionExpanded, TransitionFit, TransitionExpandable, TransitionExpands}
-use Rattle.expander.proofs.Words.{over_first, wrote_none, wrote-length, wrote_then}
-use Rattle.expander.proofs.Counts.{made-few}
-use Rattle.expander.proofs.TransitionLaws.{transitions-more, transition-length, as-transition-steps}
+use Rattle.emitter.specs.declared.Next.{Next}
+use Rattle.emitter.specs.Writing.{over, Wrote}
+use Rattle.emitter.specs.Transitions.{GoodTransition, transition_steps, TransitionExpanded, TransitionFit, TransitionExpandable, TransitionExpands}
+use Rattle.emitter.proofs.Words.{over_first, wrote_none, wrote-length, wrote_then}
+use Rattle.emitter.proofs.Counts.{made-few}
+use Rattle.emitter.proofs.TransitionLaws.{transitions-more, transition-length, as-transition-steps}
 use Rattle.expansion.specs.Writing.{action_steps, action_nodes, ActionsWrote}
 use Rattle.expansion.proofs.Files.{Writable, has_room}
 use Rattle.expansion.proofs.Actions.{actions-length, expansion-parts}
@@ -44,34 +41,30 @@ pub standing :
     {file : List ℕ} {l : Layout} (h : Laid file l) (i at : ℕ) → i < l.transitions.count → at ≡ past file l.transitions.at i →
     (a : TreeRead file) → Standing file a.tree.transitions at i
 standing {file} {l} h i at less e a =
-    let o = (laid h a).transitions in
     let f = a.tree.fields in
-    let body = transition_body f.variables f.states in
-    let n = ((group-read 2 body (steady-transition f.variables f.states) file 64 0 l.transitions.at).when o.reads).nth i (omega (arith, o.counts)) in
-    let x : Entry 2 body file at n.value = subst (λ (k : ℕ). Entry 2 body file k n.value) (sym e) n.entry in
-    let s = drop at file in
-    let fits : size_of s ≤ length s = omega (arith, x.stands.high, length-drop at file) in
+    let x = here h i at less e a in
     record {
       good = record {
         vars = f.variables;
         states = f.states;
         start = 0;
         at = at;
-        tree = n.value;
-        to = x.to;
-        rest = drop (size_of s) s;
+        tree = x.value;
+        to = x.end;
+        rest = drop x.end file;
         few = (tree-bounds a).fields.few-variables;
-        reads = ap (child (λ _. body) 0 at) (from-drop at file) ∙ child-reads (λ _. body) 0 at s (is_whole s (size_of s) refl x.stands.low fits) x.reads;
+        reads = ap (child (λ _. transition_body f.variables f.states) 0 at) (part-all at file) ∙ x.stored.reads 0;
       };
       placed = refl;
-      here = n.here;
+      here = x.here;
     }
 
 -- it stands within the file
 pub standing-fits :
     {file : List ℕ} {l : Layout} (h : Laid file l) (i at : ℕ) → i < l.transitions.count → at ≡ past file l.transitions.at i →
     (at + 12 ≤ length file) × (at + number (take 2 (drop at file)) ≤ length file)
-standing-fits h i at less e = rw e (transition_fits h i less, transition_ends h i less)
+unfolding size_of
+standing-fits h i at less e = let x = here h i at less e h.read in (x.is.fits, (stands x.stored).high)
 
 -- ---- the walk
 
@@ -155,7 +148,7 @@ module _
     count-all : length (expansion a.tree) ≡ length (action_steps a.tree) + length (expand_transitions a.tree.transitions x.node)
     count-all =
         let t = a.tree in
-        let n = first_new t.fields + action_nodes t in
+        let n = first_new t.fields.states + action_nodes t in
         let z = ap (λ k. length (expand_transitions t.transitions k)) w.node in
         omega (arith, ap length (expansion-parts t), length-append (action_steps t) (expand_transitions t.transitions n))
 

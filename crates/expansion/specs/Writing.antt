@@ -2,15 +2,15 @@
 use Rattle.std.specs.Prelude.{ℕ, ◌+◌, List, ◌++◌}
 use Rattle.rules.specs.Syntax.{Agreement}
 use Rattle.rules.specs.Expanding.{Step, made, expand, fallback_end, fallback_entry, initial_entry, first_new}
-use Rattle.expander.specs.declared.Next.{Next}
-use Rattle.expander.specs.Writing.{Wrote}
+use Rattle.emitter.specs.declared.Next.{Next}
+use Rattle.emitter.specs.Writing.{Wrote}
 
 -- "initial action (d and r the start state), fallback (d and r node S)": what `expansion` begins with
 unfoldable pub action_steps : Agreement → List Step
 action_steps a =
     let f = a.fields in
-    expand a.initial (initial_entry f) f.start f.start (first_new f)
-    ++ expand a.fallback (fallback_entry f) (fallback_end f) (fallback_end f) (first_new f + made a.initial)
+    expand a.initial (initial_entry f.states) f.start f.start (first_new f.states)
+    ++ expand a.fallback (fallback_entry f.states) (fallback_end f.states) (fallback_end f.states) (first_new f.states + made a.initial)
 
 abbrev pub action_nodes : Agreement → ℕ
 action_nodes a = made a.initial + made a.fallback
@@ -18,4 +18,4 @@ action_nodes a = made a.initial + made a.fallback
 -- they were written from the first step on
 abbrev pub ActionsWrote : (a : Agreement) (before after : List ℕ) (r : Next) → Type 0
 ActionsWrote a before after r =
-    Wrote (action_steps a) (action_nodes a) (record { node = first_new a.fields; step = 0 }) before after r
+    Wrote (action_steps a) (action_nodes a) (record { node = first_new a.fields.states; step = 0 }) before after r

@@ -6,9 +6,9 @@ ghost use Rattle.access.specs.Trees.{AcceptedFile};
 ghost use Rattle.expansion.specs.Writing.{ActionsWrote};
 
 use access::parsed::Parsed;
-use expander::statements::expand_statement;
-use expander::transitions::expand_transition;
-use expander::{Ends, Next};
+use emitter::statements::expand_statement;
+use emitter::transitions::expand_transition;
+use emitter::{Ends, Next};
 use reader::accepted::Accepted;
 use records::bytes::u16_at;
 

@@ -1,5 +1,4 @@
 -- An accepted file has at most 1,024 steps, and they leave nodes below 1,091.
--- Assumes nothing.
 use Prim.Native.Nat.{ℕ, zero, suc, ◌+◌, ◌≤◌, ◌<◌}
 use mathlib.Core.Path.{◌≡◌, refl, ap, subst, ◌∙◌}
 use mathlib.Core.Bool.{Bool, true, false}
@@ -17,7 +16,7 @@ use Rattle.records.proofs.StepCounts.{expand-length}
 use Rattle.forms.proofs.Accepted.{Sound, file-good}
 use Rattle.forms.proofs.Lookups.{all_append, Away, away}
 use Rattle.access.proofs.Using.{accepted-read, few-steps, tree-bounds}
-use Rattle.expander.proofs.Counts.{made-few}
+use Rattle.emitter.proofs.Counts.{made-few}
 use Rattle.walker.specs.Tables.{Tabled, word_at, step_at}
 use Rattle.walker.proofs.Tables.{Here, step-here}
 
@@ -59,8 +58,8 @@ none-high file a h p g =
 not-away : (p i : ℕ) (l : List Step) (s : Step) (r : List Step) → drop i l ≡ s ∷ r → s.origin ≡ p → Away p l → ⊥
 not-away p zero (x ∷ l) s r e h (All.more g gs) = let z : x ≡ s = cc in g (ap (λ (s : Step). s.origin) z ∙ h)
 not-away p (suc i) (x ∷ l) s r e h (All.more g gs) = not-away p i l s r e h gs
-not-away p zero [] s r e h g = let z : ◌≡◌ {A = ℕ} 0 1 = cc in omega arith
-not-away p (suc i) [] s r e h g = let z : ◌≡◌ {A = ℕ} 0 1 = cc in omega arith
+not-away p zero [] s r e h g = cc
+not-away p (suc i) [] s r e h g = cc
 
 -- what a loop over the steps goes by
 pub record Within (words : List ℕ) (steps : List Step) (i : ℕ) : Type 0 where

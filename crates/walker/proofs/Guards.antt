@@ -1,5 +1,4 @@
 -- What is found among the kind 1 steps, by their places.
--- Assumes nothing.
 use Rattle.std.specs.Prelude.{if◌then◌else◌, Some, None, Ok}
 use Prim.Native.Nat.{ℕ, zero, suc, ◌+◌, ◌≤◌, ◌<◌}
 use mathlib.Core.Path.{◌≡◌, refl, sym, ap, subst, ◌∙◌}
@@ -7,6 +6,7 @@ use mathlib.Core.Bool.{Bool, true, false, ◌&&◌, ◌||◌}
 use mathlib.Core.List.{List, [], ◌∷◌, map}
 use native.Mathlib.Omega.{arith}
 use native.Mathlib.Numerals.{add-one}
+use Rattle.std.proofs.Math.Bool.{or-true}
 use lib.Dec.{eqb}
 use lib.ListN.{length, get_or, drop, drop_of_length-le}
 use lib.Seq.{drop-cons}
@@ -16,7 +16,7 @@ use Rattle.rules.specs.Expanding.{Step, table}
 use Rattle.rules.specs.Stepping.{begins_with, entry_of, entry_known}
 use Rattle.rules.specs.Demands.{All}
 use Rattle.walker.specs.Tables.{word_at, step_at, guard_places, EntryFound}
-use Rattle.access.specs.Answers.{Found, elsewhere}
+use Rattle.access.specs.FoundAnswers.{Found, elsewhere}
 use Rattle.walker.proofs.Tables.{Here, step-here, here-at}
 
 -- the steps are those in the words from the i-th on
@@ -32,27 +32,19 @@ stand words i (s ∷ l) f =
     let h : s ≡ step_at words (i + 0) = cc in
     next (h ∙ ap (step_at words) e) (stand words (suc i) l λ j lt. let q : i + suc j ≡ suc i + j = omega arith in rw (← q) (f (suc j) (omega arith)))
 
--- a test that only a kind 1 step passes, and what it tests besides
-module _ (words : List ℕ) (t q : Step → Bool) (yes : (s : Step) → eqb s.kind 1 ≡ true → t s ≡ q s) (no : (s : Step) → eqb s.kind 1 ≡ false → t s ≡ false) where
-  find-guards : (i : ℕ) (l : List Step) → Stands words i l → find t l ≡ find q (map (step_at words) (guard_places i l))
-  unfolding find guard_places
-  find-guards i l end = refl
-  find-guards i l (next {s = s} {l = r} e h) = go (eqb s.kind 1) refl (find-guards (suc i) r h)
+-- What F makes of the steps is what G makes of those of kind 1, if F passes the others over.
+module _ {A : Type 0} (words : List ℕ) (F G : List Step → A) (none : F [] ≡ G [])
+    (yes : (s : Step) (l m : List Step) → eqb s.kind 1 ≡ true → F l ≡ G m → F (s ∷ l) ≡ G (s ∷ m))
+    (no : (s : Step) (l : List Step) → eqb s.kind 1 ≡ false → F (s ∷ l) ≡ F l) where
+  by-guards : (i : ℕ) (l : List Step) → Stands words i l → F l ≡ G (map (step_at words) (guard_places i l))
+  unfolding guard_places
+  by-guards i l end = none
+  by-guards i l (next {s = s} {l = r} e h) = go (eqb s.kind 1) refl (by-guards (suc i) r h)
     where
-      go : (b : Bool) → eqb s.kind 1 ≡ b → find t r ≡ find q (map (step_at words) (guard_places (suc i) r))
-          → find t (s ∷ r) ≡ find q (map (step_at words) (if b then i ∷ guard_places (suc i) r else guard_places (suc i) r))
-      go true p w = rw (← e, yes s p, w)
-      go false p w = rw (no s p) w
-
-  any-guards : (i : ℕ) (l : List Step) → Stands words i l → any t l ≡ any q (map (step_at words) (guard_places i l))
-  unfolding any guard_places
-  any-guards i l end = refl
-  any-guards i l (next {s = s} {l = r} e h) = go (eqb s.kind 1) refl (any-guards (suc i) r h)
-    where
-      go : (b : Bool) → eqb s.kind 1 ≡ b → any t r ≡ any q (map (step_at words) (guard_places (suc i) r))
-          → any t (s ∷ r) ≡ any q (map (step_at words) (if b then i ∷ guard_places (suc i) r else guard_places (suc i) r))
-      go true p w = rw (← e, yes s p, w)
-      go false p w = rw (no s p) w
+      go : (b : Bool) → eqb s.kind 1 ≡ b → F r ≡ G (map (step_at words) (guard_places (suc i) r))
+          → F (s ∷ r) ≡ G (map (step_at words) (if b then i ∷ guard_places (suc i) r else guard_places (suc i) r))
+      go true p w = rw (← e) (yes s r _ p w)
+      go false p w = no s r p ∙ w
 
 -- each of the places is that of a kind 1 step
 guard-places : (words : List ℕ) (i : ℕ) (l : List Step) → Stands words i l → All (λ p. (p < i + length l) × (word_at words p 2 ≡ 1)) (guard_places i l)
@@ -69,18 +61,10 @@ guard-places words i l h = go i l h (i + length l) (omega arith)
         by false p w = w
 
 all-at : {A : Type 0} (P : A → Type 0) (i : ℕ) (l : List A) (x : A) (r : List A) → All P l → drop i l ≡ x ∷ r → P x
-all-at P zero [] x r All.none e = absurd (let z : ◌≡◌ {A = ℕ} 0 1 = cc in omega arith)
-all-at P (suc i) [] x r All.none e = absurd (let z : ◌≡◌ {A = ℕ} 0 1 = cc in omega arith)
+all-at P zero [] x r All.none e = absurd cc
+all-at P (suc i) [] x r All.none e = absurd cc
 all-at P zero (y ∷ l) x r (All.more h hs) e = let z : y ≡ x = cc in subst P z h
 all-at P (suc i) (y ∷ l) x r (All.more h hs) e = all-at P i l x r hs e
-
-or-true : (b : Bool) → (b || true) ≡ true
-or-true true = refl
-or-true false = refl
-
-or-false : (b : Bool) → (b || false) ≡ b
-or-false true = refl
-or-false false = refl
 
 -- a kind 1 step has the name; and leaves the state
 abbrev named : (name : ℕ) → Step → Bool
@@ -111,11 +95,11 @@ module _ (words : List ℕ) (steps : List Step) where
     stands = stand words 0 steps λ j lt. let z : 0 + j ≡ j = omega arith in rw z (step-here words steps begins j lt).here
 
     pub left-all : (name n : ℕ) → Left false name n (guard_places 0 steps)
-    unfolding entry_known entry_of
+    unfolding entry_known entry_of any find
     left-all name n =
         record {
-          known = any-guards words _ (named name) (λ s e. rw e) (λ s e. rw e) 0 steps stands;
-          found = find-guards words _ (fits name n) (λ s e. rw e) (λ s e. rw e) 0 steps stands;
+          known = by-guards words (any _) (any (named name)) refl (λ s l m e h. rw (e, h)) (λ s l e. rw e) 0 steps stands;
+          found = by-guards words (find _) (find (fits name n)) refl (λ s l m e h. rw (e, h)) (λ s l e. rw e) 0 steps stands;
         }
 
     pub place : (entries : List ℕ) → entries ≡ guard_places 0 steps → (i : ℕ) → i < length entries → Place i (get_or entries i 0)

@@ -1,5 +1,4 @@
 -- What a run meets at the first step that leaves a node: its record, and where it leads.
--- Assumes nothing.
 use Prim.Native.Nat.{ℕ, zero, suc, ◌+◌, ◌≤◌}
 use mathlib.Core.Path.{◌≡◌, refl, sym, ap, subst, ◌∙◌}
 use mathlib.Core.List.{List, ◌∷◌}
@@ -65,7 +64,7 @@ simple-from {file} is x = subst (SimpleFrom file x.tree) (sym is) x.stands
 -- a kind 1 step has its guard
 guard-record : {file : List ℕ} {vars : ℕ} {l : List Step} → Shaped file vars l → (i : ℕ) {s : Step} → get_elem? l i ≡ some s → s.kind ≡ 1
     → (e : Expr) × (expr_at file vars s.at ≡ some e)
-guard-record end i e k = absurd (let z : ◌≡◌ {A = ℕ} 0 1 = cc in omega arith)
+guard-record end i e k = absurd cc
 guard-record {file} {vars} (guard {s = t} x q r h) zero {s} e k = let z : t ≡ s = cc in (x, subst (λ (s : Step). expr_at file vars s.at ≡ some x) z r)
 guard-record (guard x q r h) (suc i) e k = guard-record h i e k
 guard-record (one {s = t} x q r h) zero {s} e k = let z : t ≡ s = cc in absurd (omega (arith, ap (λ (s : Step). s.kind) z))
@@ -163,16 +162,17 @@ module _ {file words : List ℕ} (a : Expanded file words) where
         go (performing s x d v q r) = omega (arith, kind d)
         go (deciding o y z at e same d f v p q r) = omega (arith, kind d)
 
-    pub simple-met : 4 ≤ word_at words i 2 → SimpleAt file vars (word_at words i 4)
-    simple-met h = go met
+    -- where it is no guard's and no condition's, it is a statement's
+    pub simple-met : (word_at words i 2 ≡ 1 → ⊥) → (word_at words i 2 ≡ 2 → ⊥) → SimpleAt file vars (word_at words i 4) × (4 ≤ word_at words i 2)
+    simple-met guards tests = go met
       where
-        kind : {s : Step} → drop i T ≡ s ∷ drop (suc i) T → 4 ≤ s.kind
-        kind d = omega (arith, ap (λ (s : Step). s.kind) (is-here d))
+        kind : {s : Step} → drop i T ≡ s ∷ drop (suc i) T → s.kind ≡ word_at words i 2
+        kind d = ap (λ (s : Step). s.kind) (is-here d)
 
-        go : Leaving file vars T n i → SimpleAt file vars (word_at words i 4)
-        go (guarding s d v q) = absurd (omega (arith, kind d))
-        go (performing s x d v q r) = simple-there (word_at words i 4) x (rw (ap (λ (s : Step). s.at) (is-here d)) at r)
-        go (deciding o y z at e same d f v p q r) = absurd (omega (arith, kind d))
+        go : Leaving file vars T n i → SimpleAt file vars (word_at words i 4) × (4 ≤ word_at words i 2)
+        go (guarding s d v q) = absurd (guards (sym (kind d) ∙ q))
+        go (performing s x d v q r) = (simple-there (word_at words i 4) x (rw (ap (λ (s : Step). s.at) (is-here d)) at r), omega (arith, kind d))
+        go (deciding o y z at e same d f v p q r) = absurd (tests (sym (kind d)))
 
     pub condition-met : word_at words i 2 ≡ 2 → Condition i
     unfolding target_in

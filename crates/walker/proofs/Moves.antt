@@ -1,12 +1,10 @@
 -- What the code's steps and runs are, from what their parts are.
--- Assumes nothing.
 use Rattle.std.specs.Prelude.{if◌then◌else◌}
-use Prim.Native.Nat.{ℕ, ◌+◌, ◌≤◌}
+use Prim.Native.Nat.{ℕ, ◌+◌, ◌≤◌, ◌<◌}
 use mathlib.Core.Path.{◌≡◌, sym, ap, ◌∙◌}
 use mathlib.Core.Bool.{Bool, true, false}
 use mathlib.Core.List.{List}
 use mathlib.Core.Option.{some}
-use native.Mathlib.Omega.{arith}
 use Rattle.rules.specs.declared.Machine.{Machine}
 use Rattle.rules.specs.Expanding.{expansion}
 use Rattle.rules.specs.declared.Setting.{Setting}
@@ -31,7 +29,7 @@ module _ {file words : List ℕ} (a : Expanded file words) (i : ℕ) (c : Settin
     target b = target_in (step_from (expansion a.tree) (word_at words i 0) (if b then 2 else 3))
 
     decided : decided_in file a.tree c (step_at words i) m ≡ leads target (word_at words i 1) (condition c k.test.tree m)
-    decided = decided-is c records a.tree.fields (expansion a.tree) (step_at words i) m k.test.tree k.test.reads
+    decided = decided-is c records (expansion a.tree) (step_at words i) m k.test.tree k.test.reads
 
     by-value : (b : Bool) {n : ℕ} {w : Machine} → going b w ≡ condition c k.test.tree m → n ≡ target b → going n w ≡ run_of (decided_in file a.tree c (step_at words i) m)
     unfolding leads
@@ -47,26 +45,23 @@ module _ {file words : List ℕ} (a : Expanded file words) (i : ℕ) (c : Settin
     decides-stops e w h = rw decided (stops-so c m _ e w target (word_at words i 1) (condition-costs c k.test.tree m) h)
 
   pub decides : word_at words i 2 ≡ 2 → decided_in file a.tree c (step_at words i) m ≡ advance_in file a.tree c (step_at words i) m
-  decides h = sym (step-decides c records a.tree.fields (expansion a.tree) (step_at words i) m h)
+  decides h = sym (step-decides c records (expansion a.tree) (step_at words i) m h)
 
   -- a statement
-  pub performs : (x : SimpleAt file a.tree.fields.variables (word_at words i 4)) → 4 ≤ word_at words i 2 → word_at words i 2 ≤ 7
+  pub performs : (x : SimpleAt file a.tree.fields.variables (word_at words i 4)) → 4 ≤ word_at words i 2
       → {n : ℕ} {r : Run (Unit {0})} → r ≡ perform c x.tree m → n ≡ word_at words i 1 → leads (λ _. n) n r ≡ advance_in file a.tree c (step_at words i) m
-  performs x l u h e =
+  performs x l h e =
       let T = expansion a.tree in
-      rw (h, e) (sym (step-performs c records a.tree.fields T (step_at words i) m l u ∙ performed-is c records a.tree.fields T (step_at words i) m x.tree x.reads))
+      rw (h, e) (sym (step-performs c records T (step_at words i) m l ∙ performed-is c records T (step_at words i) m x.tree x.reads))
 
   -- no other step is met
-  pub refuses : (word_at words i 2 ≡ 2 → ⊥) → (word_at words i 2 ≡ 3 → ⊥) → (4 ≤ word_at words i 2 → word_at words i 2 ≤ 7 → ⊥)
-      → advance_in file a.tree c (step_at words i) m ≡ halted 25 m
-  refuses two three high =
-      step_other c records a.tree.fields (expansion a.tree) (step_at words i) m two three (λ z. high (omega arith) (omega arith))
-      (λ z. high (omega arith) (omega arith)) (λ z. high (omega arith) (omega arith)) (λ z. high (omega arith) (omega arith))
+  pub refuses : (word_at words i 2 ≡ 2 → ⊥) → (word_at words i 2 ≡ 3 → ⊥) → word_at words i 2 < 4 → advance_in file a.tree c (step_at words i) m ≡ halted 25 m
+  refuses two three low = step_other c records (expansion a.tree) (step_at words i) m two three low
 
   -- a guard
   module _ (x : ExprAt file a.tree.fields.variables (word_at words i 4)) where
     admits : admitted_in file a.tree c (step_at words i) m ≡ leads (λ _. word_at words i 1) (word_at words i 1) (guarded c x.tree m)
-    admits = admitted-is c records a.tree.fields (expansion a.tree) (step_at words i) m x.tree x.reads
+    admits = admitted-is c records (expansion a.tree) (step_at words i) m x.tree x.reads
 
     pub admits-on : {w : Machine} → going tt w ≡ guarded c x.tree m → walk_by_in file a.tree c (some (step_at words i)) m ≡ walk_in file a.tree c (word_at words i 1) w
     unfolding walk_by onward leads

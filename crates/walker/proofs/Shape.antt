@@ -1,15 +1,14 @@
 -- The form of an expansion: the two steps of a condition stand side by side, and every step's record is there.
--- Assumes nothing.
 use Prim.Native.Nat.{ℕ, ◌+◌, ◌≤◌}
 use mathlib.Core.Path.{◌≡◌, refl}
 use mathlib.Core.List.{List, [], ◌∷◌, ◌++◌}
 use mathlib.Core.Option.{some}
-use native.Mathlib.Omega.{arith}
-use Rattle.rules.specs.Syntax.{Expr, Simple, set, transfer, require, return, Transition, Agreement}
+use Rattle.rules.specs.Syntax.{Expr, Simple, Transition, Agreement}
 use Rattle.rules.specs.Syntax.{Stmt, simple, block, if_then, if_else, while, for, Stmts, last, ◌then◌}
 use Rattle.rules.specs.Reading.{expr_at, simple_at}
-use Rattle.rules.specs.Expanding.{Step, step, step_of, step_kind, joints, made, expand, expand_all, expand_transitions, expansion}
+use Rattle.rules.specs.Expanding.{Step, step, step_of, joints, made, expand, expand_all, expand_transitions, expansion}
 use Rattle.rules.specs.Demands.{All}
+use Rattle.forms.proofs.Lookups.{kind-high}
 use Rattle.forms.proofs.Accepted.{Reads, ReadsAll, Sound, Good}
 
 module _ (file : List ℕ) (vars : ℕ) where
@@ -24,13 +23,6 @@ module _ (file : List ℕ) (vars : ℕ) where
   both (guard e q r h) k = guard e q r (both h k)
   both (one x q r h) k = one x q r (both h k)
   both (two e r h) k = two e r (both h k)
-
-  kind-high : (x : Simple) → 4 ≤ step_kind x
-  unfolding step_kind
-  kind-high (set t e) = omega arith
-  kind-high (transfer k e) = omega arith
-  kind-high (require e) = omega arith
-  kind-high (return e) = omega arith
 
   single : (at : ℕ) (x : Simple) (o d r : ℕ) {l : List Step} → simple_at file vars at ≡ some x → Shaped l → Shaped (step_of at x o d r ∷ l)
   unfolding step_of

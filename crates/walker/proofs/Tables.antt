@@ -1,5 +1,4 @@
 -- The i-th step of a table stands in the words that begin with it.
--- Assumes nothing.
 use Prim.Native.Nat.{ℕ, zero, suc, ◌+◌, ◌*◌, ◌≤◌, ◌<◌}
 use mathlib.Core.Path.{◌≡◌, refl, sym, ap, ap₂, ◌∙◌}
 use mathlib.Core.Bool.{true, false≢true}
@@ -13,17 +12,8 @@ use borrow.Author.Tests.{eqb-true}
 use Rattle.rules.specs.Basics.{joined}
 use Rattle.rules.specs.Expanding.{Step, step, words_of, table}
 use Rattle.rules.specs.Stepping.{begins_with}
-use Rattle.records.proofs.Parts.{both}
+use Rattle.forms.proofs.Decoding.{begins}
 use Rattle.walker.specs.Tables.{word_at, step_at}
-
-begins : (words front : List ℕ) → begins_with words front ≡ true → (rest : List ℕ) × (words ≡ front ++ rest)
-unfolding begins_with
-begins ws [] e = (ws, refl)
-begins [] (y ∷ ys) e = absurd (false≢true e)
-begins (w ∷ ws) (y ∷ ys) e =
-    let t = both (eqb w y) (begins_with ws ys) e in
-    let r = begins ws ys t.1 in
-    (r.0, ap₂ (λ (x : ℕ) (l : List ℕ). x ∷ l) (eqb-true w y t.0) r.1)
 
 drop-table : (i : ℕ) (l : List Step) (rest : List ℕ) → i ≤ length l → drop (5 * i) (table l ++ rest) ≡ table (drop i l) ++ rest
 unfolding table joined words_of
@@ -61,8 +51,8 @@ pub here-at : {words : List ℕ} {steps : List Step} {i : ℕ} → Here words st
 here-at {words} {steps} {i} h = go i steps h.here
   where
     go : (k : ℕ) (l : List Step) → drop k l ≡ step_at words i ∷ drop (suc k) l → get_elem? l k ≡ some (step_at words i)
-    go zero [] e = absurd (let z : ◌≡◌ {A = ℕ} 0 1 = cc in omega arith)
-    go (suc k) [] e = absurd (let z : ◌≡◌ {A = ℕ} 0 1 = cc in omega arith)
+    go zero [] e = absurd cc
+    go (suc k) [] e = absurd cc
     go zero (s ∷ l) e = cc
     go (suc k) (s ∷ l) e = go k l e
 
@@ -71,7 +61,7 @@ pub at_here : {words : List ℕ} {steps : List Step} {i : ℕ} {s : Step} → He
 at_here h e = let z = here-at h in cc
 
 pub at-below : (steps : List Step) (i : ℕ) {s : Step} → get_elem? steps i ≡ some s → i < length steps
-at-below [] i e = absurd (let z : ◌≡◌ {A = ℕ} 0 1 = cc in omega arith)
+at-below [] i e = absurd cc
 at-below (x ∷ l) zero e = omega arith
 at-below (x ∷ l) (suc i) e = omega (arith, at-below l i e)
 

@@ -1,12 +1,10 @@
 -- A run from node to node by the index of nodes.
--- Assumes nothing.
 use Prim.Native.Nat.{ℕ, suc, ◌≤◌, ◌<◌}
 use mathlib.Core.Path.{◌≡◌, refl, sym, ap, subst, ◌∙◌}
 use mathlib.Core.Bool.{true, Bool-set}
 use mathlib.Core.List.{List}
 use mathlib.Core.Logic.{∥∥₁_elim}
 use mathlib.Core.Option.{some}
-use native.Mathlib.Omega.{arith}
 use Rattle.std.proofs.Math.Nat.{ℕ_set}
 use Rattle.std.proofs.Props.{props}
 use lib.ListN.{get_or}
@@ -64,23 +62,20 @@ module _ {file words nodes : List ℕ} {fields : Fields} (w : Walkable file word
     abbrev records : Records
     records = records_in file a.tree.fields.variables
 
-    states-of : fields.states ≡ a.tree.fields.states
-    states-of = ap (λ (f : Fields). f.states) (fields-of a)
+    pub ends-here : n ≤ c.states → walk_in file a.tree c n m ≡ ended n m
+    ends-here low = walk_ends c records (expansion a.tree) n m low
 
-    pub ends-here : n ≤ fields.states → walk_in file a.tree c n m ≡ ended n m
-    ends-here low = walk_ends c records a.tree.fields (expansion a.tree) n m (omega (arith, states-of))
-
-    module _ (high : fields.states < n) where
+    module _ (high : c.states < n) where
       pub no_step : 0 ≡ get_or nodes n 0 → walk_in file a.tree c n m ≡ halted 25 m
-      no_step e = walk_refused c records a.tree.fields (expansion a.tree) n m (omega (arith, states-of)) (none_first a n (placed a n 0 e))
+      no_step e = walk_refused c records (expansion a.tree) n m high (none_first a n (placed a n 0 e))
 
       module _ (i : ℕ) (e : suc i ≡ get_or nodes n 0) where
         step_is : leaving (expansion a.tree) n ≡ some (step_at words i)
         step_is = leaves a i n (placed a n (suc i) e)
 
         pub stops-here : (s : Stop) (v : Machine) → stopped_by s v ≡ run_of (advance_in file a.tree c (step_at words i) m) → stopped_by s v ≡ run_of (walk_in file a.tree c n m)
-        stops-here s v is = walk-stops c records a.tree.fields (expansion a.tree) n m (step_at words i) s v (omega (arith, states-of)) step_is is
+        stops-here s v is = walk-stops c records (expansion a.tree) n m (step_at words i) s v high step_is is
 
-        pub goes_on : {k : ℕ} {v : Machine} → going k v ≡ run_of (advance_in file a.tree c (step_at words i) m) → c.fields ≡ a.tree.fields
+        pub goes_on : {k : ℕ} {v : Machine} → going k v ≡ run_of (advance_in file a.tree c (step_at words i) m)
             → walk_in file a.tree c n m ≡ walk_in file a.tree c k v
-        goes_on is f = walk-goes c records (expansion a.tree) a.tree.fields f n m (step_at words i) (omega (arith, states-of)) step_is _ _ is
+        goes_on is = walk-goes c records (expansion a.tree) n m (step_at words i) high step_is _ _ is

@@ -19,19 +19,19 @@ run_of (halted k m) = stopped k m
 -- the rules' runs on a file's records and the steps of its expansion
 module _ (file : List ℕ) (a : Agreement) (c : Setting) where
   abbrev pub decided_in : Step → Machine → End
-  decided_in = decided (records_in file a.fields.variables) a.fields (expansion a) c
+  decided_in = decided (records_in file a.fields.variables) (expansion a) c
 
   abbrev pub advance_in : Step → Machine → End
-  advance_in = advance (records_in file a.fields.variables) a.fields (expansion a) c
+  advance_in = advance (records_in file a.fields.variables) (expansion a) c
 
   abbrev pub admitted_in : Step → Machine → End
-  admitted_in = admitted (records_in file a.fields.variables) a.fields (expansion a) c
+  admitted_in = admitted (records_in file a.fields.variables) (expansion a) c
 
   abbrev pub walk_in : (node : ℕ) → Machine → End
-  walk_in = walk_from (records_in file a.fields.variables) a.fields (expansion a) c
+  walk_in = walk_from (records_in file a.fields.variables) (expansion a) c
 
   abbrev pub walk_by_in : Option Step → Machine → End
-  walk_by_in = walk_by (records_in file a.fields.variables) a.fields (expansion a) c
+  walk_by_in = walk_by (records_in file a.fields.variables) (expansion a) c
 
 -- what an index has of a node, from the place of the first step that leaves it
 abbrev pub indexed_as : Std.Option ℕ → ℕ

@@ -6,7 +6,7 @@ use Rattle.rules.specs.Syntax.{Agreement}
 use Rattle.rules.specs.Expanding.{Step, step, expansion, table}
 use Rattle.rules.specs.Accepting.{good, file_of}
 use Rattle.rules.specs.Stepping.{begins_with, entry_of, entry_known}
-use Rattle.access.specs.Answers.{Found}
+use Rattle.access.specs.FoundAnswers.{Found}
 
 -- the file is accepted and the words begin with its expansion
 pub record Expanded (file words : List ℕ) : Type 0 where

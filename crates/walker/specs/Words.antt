@@ -1,7 +1,7 @@
 -- A step as the code has it.
 use Rattle.std.specs.Prelude.{ℕ, ◌≡◌, List}
 use Rattle.walker.specs.Tables.{word_at}
-use Rattle.expander.specs.declared.steps.Step.{Step}
+use Rattle.emitter.specs.declared.steps.Step.{Step}
 
 -- it is the i-th step of the words
 pub record Holds (words : List ℕ) (i : ℕ) (s : Step) : Type 0 where

@@ -3,11 +3,14 @@ ghost use Rattle.std.specs.Prelude.{◌≡◌, [], ◌∷◌, ◌++◌, ◌<◌,
 
 use std::marker::Model;
 
-// The places come first in the array: fixed memory, as the product uses no heap. Reporter's `Page` is no instance of one generic type with
+// Each is the place of a step, of which an accepted file has at most so many.
+const MOST: usize = 1024;
+
+// The places come first in the array: fixed memory, as the product uses no heap. `Page` of `texts` is no instance of one generic type with
 // it: a page takes whole texts and promises zeros behind them.
 #[derive(Drop)]
 pub struct Entries {
-    places: [u32; 1024],
+    places: [u32; MOST],
     count: usize,
 }
 
@@ -27,7 +30,7 @@ impl Entries {
         ensures { result ≡ [] }
     {
         Entries {
-            places: [0; 1024],
+            places: [0; MOST],
             count: 0,
         }
     }

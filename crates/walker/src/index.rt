@@ -6,17 +6,21 @@ ghost use Rattle.walker.specs.Tables.{Expanded, Tabled, Indexed, guard_places};
 
 use crate::entries::Entries;
 use crate::words::step_at;
-use expander::steps::StepKind;
+use emitter::steps::StepKind;
+
+// So many nodes an accepted file can have: at most 64 states, the three nodes that follow them, and fewer new nodes than its steps, of
+// which there are at most 1,024.
+pub const NODES: usize = 1091;
 
 // For each node 1 + the place of the first step that leaves it, or 0 where none does: one word a node, and no option, which takes a word
-// more with this compiler, of a `NonZeroU32` too. An array of as many nodes as an accepted file can have, as the product uses no heap.
+// more with this compiler, of a `NonZeroU32` too. An array, as the product uses no heap.
 // The last step goes first, so that the first of those that leave a node stays.
-pub fn index_nodes(words: &[u32], steps: usize) -> [u32; 1091]
+pub fn index_nodes(words: &[u32], steps: usize) -> [u32; NODES]
     requires { Tabled words.now steps }
     ensures { (file : List ℕ) (a : Expanded file words.now) → steps ≡ length (expansion a.tree) →
         Indexed (expansion a.tree) result }
 {
-    let mut nodes = [0; 1091];
+    let mut nodes = [0; NODES];
     for i in (0..steps).rev() {
         let origin = step_at(words, i).origin as usize;
         nodes[origin] = i as u32 + 1;

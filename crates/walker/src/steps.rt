@@ -1,6 +1,7 @@
 // The steps of an accepted file, as a run goes by them.
 ghost use Rattle.walker.specs.Walkable.{Walkable};
 
+use crate::index::NODES;
 use rules::Fields;
 
 // The file, lent words that begin with its expansion, the index of its nodes, and its fields.
@@ -8,7 +9,7 @@ use rules::Fields;
 pub struct Steps<'a> {
     pub file: &'a [u8],
     pub words: &'a [u32],
-    pub nodes: &'a [u32; 1091],
+    pub nodes: &'a [u32; NODES],
     pub fields: Fields,
     pub ghost walkable: { ∥ Walkable file.now words.now nodes.now fields ∥₁ },
 }

@@ -13,9 +13,16 @@ ghost use Rattle.walker.specs.Runs.{run_of, indexed_as, Ready, Enterable, decide
 use crate::steps::Steps;
 use crate::words::step_at;
 use actions::steps::{guard, perform, test};
-use expander::steps::StepKind;
+use emitter::steps::StepKind;
 use machine::Stop;
 use rules::{Machine, Setting};
+
+// The kinds of steps that are no statement's. From 4 on a step is a statement's, so no `StepKind` is made of its number.
+const GUARD: u32 = StepKind::Guard as u32;
+
+const TRUE: u32 = StepKind::True as u32;
+
+const FALSE: u32 = StepKind::False as u32;
 
 // Where an action leads: to this node, by a return too, unless it is refused.
 #[tactic(auto, unfolding(rules::specs::Calling::leads))]
@@ -55,32 +62,30 @@ impl Steps<'_> {
 
     // One step.
     fn advance(&self, i: usize, m: &mut Machine, setting: &Setting) -> Result<u32, Stop>
-        requires { Ready self.now.file.now self.now.words.now i × Funded setting.now.fields.accounts m.old }
+        requires { Ready self.now.file.now self.now.words.now i × Funded setting.now.accounts m.old }
         ensures { (a : Expanded self.now.file.now self.now.words.now) →
             ran result m.new ≡ run_of (advance_in self.now.file.now a.tree setting.now (step_at self.now.words.now i) m.old) }
     {
         let step = step_at(self.words, i);
-        // No step of another kind is the first that leaves a node of a run.
-        let Ok(kind) = StepKind::try_from(step.kind) else {
-            return Err(Stop::ActionFailed);
-        };
-        match kind {
-            StepKind::True => self.decide(i, m, setting),
-            StepKind::Set | StepKind::Transfer | StepKind::Require | StepKind::Return => {
+        match step.kind {
+            TRUE => self.decide(i, m, setting),
+            // Neither is the first that leaves a node of a run.
+            GUARD | FALSE => Err(Stop::ActionFailed),
+            // a statement's, 4 to 7
+            _ => {
                 let run = perform(&self.file[step.at as usize..], m, setting);
                 led(step.target, run)
             }
-            StepKind::Guard | StepKind::False => Err(Stop::ActionFailed),
         }
     }
 
     // The run from a node to the node that it ends at.
     pub fn walk(&self, node: u32, m: &mut Machine, setting: &Setting) -> Result<u32, Stop>
-        requires { Funded setting.now.fields.accounts m.old }
-        ensures { (a : Expanded self.now.file.now self.now.words.now) → setting.now.fields ≡ a.tree.fields →
+        requires { Funded setting.now.accounts m.old }
+        ensures { (a : Expanded self.now.file.now self.now.words.now) →
             ran result m.new ≡ run_of (walk_in self.now.file.now a.tree setting.now node m.old) }
     {
-        let states = u32::from(self.fields.states);
+        let states = u32::from(setting.states);
         let mut at = node;
         while states < at {
             let i = self.place_of(at).ok_or(Stop::ActionFailed)?;
@@ -91,9 +96,8 @@ impl Steps<'_> {
 
     // The guard's step at a place, and then the run from where it leads.
     pub fn enter(&self, place: usize, m: &mut Machine, setting: &Setting) -> Result<u32, Stop>
-        requires { Enterable self.now.file.now self.now.words.now place × Funded setting.now.fields.accounts m.old }
+        requires { Enterable self.now.file.now self.now.words.now place × Funded setting.now.accounts m.old }
         ensures { (a : Expanded self.now.file.now self.now.words.now) (s : Step) → get_elem? (expansion a.tree) place ≡ some s →
-            setting.now.fields ≡ a.tree.fields →
             ran result m.new ≡ run_of (walk_by_in self.now.file.now a.tree setting.now (some s) m.old) }
     {
         let step = step_at(self.words, place);

@@ -2,7 +2,7 @@
 ghost use Rattle.std.specs.Prelude.{◌+◌, ◌*◌, ◌≤◌, length};
 ghost use Rattle.walker.specs.Words.{Holds};
 
-use expander::steps::Step;
+use emitter::steps::Step;
 
 // The i-th step. No `From<[u32; 5]>`: the five words would be copied first.
 pub fn step_at(words: &[u32], i: usize) -> Step

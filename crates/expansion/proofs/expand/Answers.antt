@@ -4,7 +4,7 @@ use native.Mathlib.Omega.{arith}
 use Rattle.std.proofs.lemmas.Result.{err_from_is_err_and}
 use Rattle.access.proofs.Kept.{accepted-moved, accepted-of, few_of}
 use Rattle.access.proofs.Using.{refused-file}
-use Rattle.expansion.proofs.Answers.{expand-refused, expand-few, expand-written}
+use Rattle.expansion.proofs.ExpandAnswers.{expand-refused, expand-few, expand-written}
 use Rattle.expansion.proofs.expand.Goals as goal
 
 pub returns-in_err-accepted : goal.returns-in_err-accepted

@@ -1,7 +1,7 @@
 -- `check_room` meets its contract.
 use native.Mathlib.Omega.{arith}
 use Rattle.access.proofs.Kept.{accepted-of, steps-are, few_of}
-use Rattle.expansion.proofs.Answers.{few-words, enough-words}
+use Rattle.expansion.proofs.ExpandAnswers.{few-words, enough-words}
 use Rattle.expansion.proofs.lent.check_room.Goals as goal
 
 pub overflow_mul-accepted : goal.overflow_mul-accepted

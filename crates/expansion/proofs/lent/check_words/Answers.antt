@@ -1,7 +1,7 @@
 -- `check_words` meets its contract: the room first, and then the words.
 use mathlib.Core.Path.{sym, ◌∙◌}
 use Rattle.std.proofs.lemmas.Result.{err_from_is_err_and}
-use Rattle.expansion.proofs.Answers.{words-refused, words-other, words-good}
+use Rattle.expansion.proofs.ExpandAnswers.{words-refused, words-other, words-good}
 use Rattle.expansion.proofs.lent.check_words.Goals as goal
 
 pub returns-in_err-check_room-clause-is : goal.returns-in_err-check_room-clause-is
@@ -15,4 +15,6 @@ returns-then-is_expansion-clause-is c =
 
 pub returns-else-is_expansion-clause-is : goal.returns-else-is_expansion-clause-is
 returns-else-is_expansion-clause-is c =
-    λ a. rw c.placeless.ensures (words-other a.tree _ (sym c.in_ok-check_room.was ∙ c.check_room.ensures.is a) (sym c.if-is_expansion.false ∙ c.is_expansion.ensures a))
+    λ a.
+    rw c.placeless.ensures
+    (words-other a.tree _ (sym c.in_ok-check_room.was ∙ c.check_room.ensures.is a) (sym c.if-is_expansion.false ∙ c.is_expansion.ensures a))

@@ -37,7 +37,8 @@ pub expand_statement-next-requires : goal.expand_statement-next-requires
 expand_statement-next-requires c =
     let p = laid-out c.args.accepted.now c.requires in
     let w = (goal.at.expand_statement-next-requires c).After-from-start in
-    initial-ready p.0 p.1 p.1.accepted (states w p.1.accepted) (start w p.1.accepted)
+    let a = p.1.accepted in
+    initial-ready p.0 p.1 a (states w a) (start w a)
 
 pub slice_bounds-expand_statement-count-2 : goal.slice_bounds-expand_statement-count-2
 slice_bounds-expand_statement-count-2 c = fallback-within (laid-out c.args.accepted.now c.requires)
@@ -49,7 +50,8 @@ pub expand_statement-requires : goal.expand_statement-requires
 expand_statement-requires c =
     let p = laid-out c.args.accepted.now c.requires in
     let w = (goal.at.expand_statement-requires c).After-from-start in
-    fallback-ready p.0 p.1 p.1.accepted (states w p.1.accepted) (start w p.1.accepted) c.expand_statement-next.ensures c.expand_statement-next.auto.words
+    let a = p.1.accepted in
+    fallback-ready p.0 p.1 a (states w a) (start w a) c.expand_statement-next.ensures c.expand_statement-next.auto.words
 
 pub returns : goal.returns
 returns c =

@@ -8,12 +8,12 @@ use borrow.Author.Tests.{eqb-true, eqb-false, ne_eqb}
 use lib.Dec.{eqb}
 use Rattle.std.specs.Prelude.{Result, Ok, Err}
 use Rattle.std.specs.Result.{result_eq}
-use Rattle.expander.specs.Steps.{Numbers}
-use Rattle.expander.specs.declared.steps.UnknownKind.{UnknownKind}
-use Rattle.expander.specs.declared.steps.StepKind.{StepKind}
-use Rattle.expander.specs.declared.steps.StepKind.TheVariants.{Guard, True, False, Set, Transfer, Require, Return}
-use Rattle.expander.specs.contracts.steps.StepKindPartialEq.TheImpl.{eq-value as kinds-eq}
-use Rattle.expander.specs.contracts.steps.UnknownKindPartialEq.TheImpl.{eq-value as unknown-eq}
+use Rattle.emitter.specs.Steps.{Numbers}
+use Rattle.emitter.specs.declared.steps.UnknownStepKind.{UnknownStepKind}
+use Rattle.emitter.specs.declared.steps.StepKind.{StepKind}
+use Rattle.emitter.specs.declared.steps.StepKind.TheVariants.{Guard, True, False, Set, Transfer, Require, Return}
+use Rattle.emitter.specs.contracts.steps.StepKindPartialEq.TheImpl.{eq-value as kinds-eq}
+use Rattle.emitter.specs.contracts.steps.UnknownStepKindPartialEq.TheImpl.{eq-value as unknown-eq}
 use Rattle.rules.specs.Expanding.{expansion}
 use Rattle.walker.specs.Tables.{Expanded}
 use Rattle.walker.proofs.Bounds.{few, within}
@@ -23,7 +23,7 @@ use Rattle.walker.proofs.index.index_entries.Goals as goal
 use Rattle.walker.proofs.index.index_entries.Goals.{then-eq, else-eq}
 
 -- the kind that is looked for is that of this number
-guards : (n : ℕ) (r : Result StepKind UnknownKind) → Numbers n r → result_eq kinds-eq.it unknown-eq.it r (Ok Guard) ≡ eqb n 1
+guards : (n : ℕ) (r : Result StepKind UnknownStepKind) → Numbers n r → result_eq kinds-eq.it unknown-eq.it r (Ok Guard) ≡ eqb n 1
 guards n (Ok Guard) h = rw (← h) refl
 guards n (Ok True) h = rw (← h) refl
 guards n (Ok False) h = rw (← h) refl

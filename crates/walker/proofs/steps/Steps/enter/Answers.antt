@@ -43,7 +43,7 @@ pub guard-requires : goal.guard-requires
 guard-requires c = (expr-from c.step_at-step.ensures.at (met c.requires.0 (walkable c.args.self.now.walkable).expanded)).bytes
 
 pub returns-in_err-guard : goal.returns-in_err-guard
-returns-in_err-guard c = λ a s e f.
+returns-in_err-guard c = λ a s e.
     let p = err_from_is_err_and c.from_residual.result c.from_residual.ensures.1 in
     let x = met c.requires.0 a in
     let b = expr-from c.step_at-step.ensures.at x in
@@ -62,13 +62,13 @@ walk-requires c =
     still-funded (ran-keeps c.guard.result _ (guards c.args.setting.now m b (c.guard.ensures b.bytes)) (guarded-keeps c.args.setting.now x.tree m c.requires.1.room)) c.requires.1
 
 pub returns : goal.returns
-returns c = λ a s e f.
+returns c = λ a s e.
     let x = met c.requires.0 a in
     let b = expr-from c.step_at-step.ensures.at x in
     let d = c.args.setting.now in
     let m = c.args.m.now in
     let g = guards d m b (c.in_ok-guard.ensures b.bytes) in
-    c.walk.ensures a f
+    c.walk.ensures a
     ∙ ap (λ (n : ℕ). run_of (walk_in c.args.self.now.file.now a.tree d n c.guard.new.m)) c.step_at-step.ensures.target
     ∙ ap run_of (sym (admits-on a c.args.place d m x g))
     ∙ ap (λ (t : Step). run_of (walk_by_in c.args.self.now.file.now a.tree d (some t) m)) (at_here (at_place a c.args.place e) e)

@@ -24,11 +24,11 @@ nothing None e h g is = (is, cc)
 nothing (Some k) e h g is = cc
 
 pub returns-in_err-i : goal.returns-in_err-i
-returns-in_err-i c = λ a f.
+returns-in_err-i c = λ a.
     let w = walkable c.args.self.now.walkable in
     let p = err_from_is_err_and c.from_residual.result c.from_residual.ensures.1 in
     let n = nothing _ _ c.ok_or.ensures.value c.in_err-i.was c.place_of.ensures in
-    rw (p.1, p.2, n.1) (ap run_of (sym (c.loop-at.invariant.1 a f ∙ no_step w a _ _ _ (omega arith) n.0)))
+    rw (p.1, p.2, n.1) (ap run_of (sym (c.loop-at.invariant.1 a ∙ no_step w a _ _ _ (omega arith) n.0)))
 
 pub advance-requires : goal.advance-requires
 advance-requires c =
@@ -36,16 +36,16 @@ advance-requires c =
     (ready (walkable c.args.self.now.walkable) _ _ i, still-funded c.loop-at.invariant.0 c.requires)
 
 pub returns-in_err-at : goal.returns-in_err-at
-returns-in_err-at c = λ a f.
+returns-in_err-at c = λ a.
     let w = walkable c.args.self.now.walkable in
     let p = err_from_is_err_and c.from_residual-in_err-at.result c.from_residual-in_err-at.ensures.1 in
     let i = found _ _ c.ok_or.ensures.value c.in_ok-i.was c.place_of.ensures in
-    rw (p.1, p.2) (stops-here w a _ _ _ (omega arith) _ i _ _ (c.in_err-at.ensures a) ∙ ap run_of (sym (c.loop-at.invariant.1 a f)))
+    rw (p.1, p.2) (stops-here w a _ _ _ (omega arith) _ i _ _ (c.in_err-at.ensures a) ∙ ap run_of (sym (c.loop-at.invariant.1 a)))
 
 pub loop-at-smaller : goal.loop-at-smaller
 loop-at-smaller c =
     let a = (walkable c.args.self.now.walkable).expanded in
-    let k = step-costs c.args.setting.now (records_in c.args.self.now.file.now a.tree.fields.variables) a.tree.fields (expansion a.tree) _ _ (c.in_ok-at.ensures a) in
+    let k = step-costs c.args.setting.now (records_in c.args.self.now.file.now a.tree.fields.variables) (expansion a.tree) _ _ (c.in_ok-at.ensures a) in
     omega (arith, k.0, k.1)
 
 pub loop-at-preserved : goal.loop-at-preserved
@@ -56,11 +56,11 @@ loop-at-preserved c =
     let i = found _ _ c.ok_or.ensures.value c.in_ok-i.was c.place_of.ensures in
     let room = (still-funded h.0 c.requires).room in (
       kept_on h.0
-          (step_keeps c.args.setting.now (records_in c.args.self.now.file.now a.tree.fields.variables) a.tree.fields (expansion a.tree) _ _ room (c.in_ok-at.ensures a)),
-      λ a f. h.1 a f ∙ goes_on w a _ _ _ (omega arith) _ i (c.in_ok-at.ensures a) f,
+          (step_keeps c.args.setting.now (records_in c.args.self.now.file.now a.tree.fields.variables) (expansion a.tree) _ _ room (c.in_ok-at.ensures a)),
+      λ a. h.1 a ∙ goes_on w a _ _ _ (omega arith) _ i (c.in_ok-at.ensures a),
     )
 
 pub returns : goal.returns
-returns c = λ a f.
+returns c = λ a.
     let w = walkable c.args.self.now.walkable in
-    ap run_of (sym (c.loop-at.invariant.1 a f ∙ ends-here w a _ _ _ (omega arith)))
+    ap run_of (sym (c.loop-at.invariant.1 a ∙ ends-here w a _ _ _ (omega arith)))

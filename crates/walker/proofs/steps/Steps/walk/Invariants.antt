@@ -8,10 +8,10 @@ use Rattle.walker.proofs.steps.Steps.walk.Given as goal
 
 abbrev pub invariant-loop-at : goal.invariant-loop-at
 invariant-loop-at l =
-    Kept l.setting.fields.limit l.initial.m l.m
-    × ((a : Expanded l.self.file.now l.self.words.now) → l.setting.fields ≡ a.tree.fields →
+    Kept l.setting.limit l.initial.m l.m
+    × ((a : Expanded l.self.file.now l.self.words.now) →
     walk_in l.self.file.now a.tree l.setting l.initial.at l.initial.m ≡ walk_in l.self.file.now a.tree l.setting l.at l.m)
 
 -- each step charges a unit
 abbrev pub decreases-loop-at : goal.decreases-loop-at
-decreases-loop-at l = l.setting.fields.limit - l.m.units
+decreases-loop-at l = l.setting.limit - l.m.units
