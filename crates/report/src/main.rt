@@ -2,7 +2,7 @@
 // tells a file that is too long.
 #![tactic(auto)]
 
-use reporter::report;
+use texts::report;
 
 fn main() {
     let mut bytes = [0u8; 32769];

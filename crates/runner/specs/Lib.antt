@@ -1,4 +1,4 @@
 -- What the runs of a call ask for, and what it answers.
 pub mod Transitions
 pub mod Tables
-pub mod Answers
+pub mod CallAnswers

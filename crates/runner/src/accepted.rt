@@ -4,7 +4,7 @@ ghost use Rattle.rules.specs.Running.{after, guarded, statement};
 ghost use Rattle.rules.specs.Calling.{outcome, start_tree, call_tree};
 ghost use Rattle.machine.specs.Runs.{ran, Funded};
 ghost use Rattle.access.specs.Trees.{AcceptedFile};
-ghost use Rattle.runner.specs.Answers.{answered};
+ghost use Rattle.runner.specs.CallAnswers.{answered};
 ghost use Rattle.runner.specs.Transitions.{Moves};
 
 use crate::answers::answered;
@@ -22,7 +22,7 @@ pub fn start_accepted(accepted: &Accepted) -> Outcome
     ensures { (a : AcceptedFile accepted.now.parsed.file.now) → result ≡ start_tree a.tree }
 {
     let parsed = &accepted.parsed;
-    let (mut m, setting) = starting(parsed.fields());
+    let (mut m, setting) = starting(&parsed.fields());
     let at = parsed.layout.initial;
     let run = run_statement(&parsed.file[at..], &mut m, &setting);
     started(setting.before, &m, run)
@@ -44,7 +44,7 @@ fn call_tested(accepted: &Accepted, s: &mut State, k: &Call) -> Result<Answer, R
     let fields = parsed.fields();
     check_call(&fields, s, k)?;
     let found = parsed.find_transition(k.name, s.state)?;
-    let (mut m, setting) = entering(fields, s, k);
+    let (mut m, setting) = entering(&fields, s, k);
     match found {
         None => {
             let at = parsed.layout.fallback;
@@ -66,7 +66,7 @@ fn run_transition(
     m: &mut Machine,
     setting: &Setting,
 ) -> Result<(), Stop>
-    requires { Moves parsed.now.file.now at × Funded setting.now.fields.accounts m.old }
+    requires { Moves parsed.now.file.now at × Funded setting.now.accounts m.old }
     ensures { (t : Moves parsed.now.file.now at) →
         ran result m.new ≡ after (guarded setting.now t.guard.tree m.old) (λ _. statement setting.now t.action.tree) }
 {

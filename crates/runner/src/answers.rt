@@ -1,6 +1,6 @@
 // The answer of a call whose tests come first.
 ghost use Rattle.std.specs.Prelude.{◌≡◌};
-ghost use Rattle.runner.specs.Answers.{answered};
+ghost use Rattle.runner.specs.CallAnswers.{answered};
 
 use rules::{Answer, Refusal};
 

@@ -8,7 +8,7 @@ ghost use Rattle.machine.specs.Runs.{ran, Funded};
 ghost use Rattle.machine.specs.Calls.{Passed, Fits};
 ghost use Rattle.walker.specs.Tables.{Expanded, EntryFound};
 ghost use Rattle.walker.specs.Runs.{run_of, walk_by_in};
-ghost use Rattle.runner.specs.Answers.{answered};
+ghost use Rattle.runner.specs.CallAnswers.{answered};
 ghost use Rattle.runner.specs.Tables.{start_in, call_in};
 
 use crate::Prepared;
@@ -21,19 +21,19 @@ use walker::steps::Steps;
 
 // The node that a run has reached becomes the state; the fallback's end, which is the number of states, keeps the
 // state of before.
-fn settle(states: u32, before: u32, node: u32) -> u32
-    ensures { result ≡ (if eqb node states then before else node) }
+fn settle(setting: &Setting, node: u32) -> u32
+    ensures { result ≡ (if eqb node setting.now.states then setting.now.before else node) }
 {
-    if node == states { before } else { node }
+    let end = u32::from(setting.states);
+    if node == end { setting.before } else { node }
 }
 
 pub fn start_prepared(steps: &Steps<'_>) -> Outcome
     ensures { (a : Expanded steps.now.file.now steps.now.words.now) → result ≡ start_in steps.now.file.now a.tree }
 {
-    let states = u32::from(steps.fields.states);
-    let (mut m, setting) = starting(steps.fields);
-    match steps.walk(states + 2, &mut m, &setting) {
-        Ok(node) => started(settle(states, setting.before, node), &m, Ok(())),
+    let (mut m, setting) = starting(&steps.fields);
+    match steps.walk(u32::from(setting.states) + 2, &mut m, &setting) {
+        Ok(node) => started(settle(&setting, node), &m, Ok(())),
         Err(stop) => started(setting.before, &m, Err(stop)),
     }
 }
@@ -83,12 +83,9 @@ fn call_passed(p: &Prepared<'_, '_>, s: &mut State, k: &Call) -> Result<Answer, 
         outcome (answered result) s.new ≡ call_in p.now.steps.file.now a.tree s.old k.now }
 {
     let entry = p.steps.find_entry(p.entries, k.name, s.state)?;
-    let (mut m, setting) = entering(p.steps.fields, s, k);
+    let (mut m, setting) = entering(&p.steps.fields, s, k);
     match run(&p.steps, entry, &mut m, &setting) {
-        Ok(node) => {
-            let state = settle(u32::from(setting.fields.states), setting.before, node);
-            Ok(called(s, state, &m, Ok(())))
-        }
+        Ok(node) => Ok(called(s, settle(&setting, node), &m, Ok(()))),
         Err(stop) => Ok(called(s, setting.before, &m, Err(stop))),
     }
 }
@@ -100,14 +97,14 @@ fn run(
     m: &mut Machine,
     setting: &Setting,
 ) -> Result<u32, Stop>
-    requires { Funded setting.now.fields.accounts m.old × ((a : Expanded steps.now.file.now steps.now.words.now) →
-        (setting.now.fields ≡ a.tree.fields) × EntryFound (expansion a.tree) setting.now.call.name setting.now.before (Ok entry)) }
+    requires { Funded setting.now.accounts m.old × ((a : Expanded steps.now.file.now steps.now.words.now) →
+        EntryFound (expansion a.tree) setting.now.call.name setting.now.before (Ok entry)) }
     ensures { (a : Expanded steps.now.file.now steps.now.words.now) → ran result m.new
         ≡ run_of (walk_by_in steps.now.file.now a.tree setting.now
         (entry_of (expansion a.tree) setting.now.call.name setting.now.before) m.old) }
 {
     match entry {
         Some(place) => steps.enter(place, m, setting),
-        None => steps.walk(u32::from(setting.fields.states) + 1, m, setting),
+        None => steps.walk(u32::from(setting.states) + 1, m, setting),
     }
 }

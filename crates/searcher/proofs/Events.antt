@@ -1,10 +1,10 @@
 -- How a rule stands, one event at a time.
--- Assumes nothing.
 use Rattle.std.specs.Prelude.{Some}
 use Prim.Native.Nat.{ℕ, suc, zero, ◌-◌, ◌≤◌}
 use mathlib.Core.Path.{◌≡◌, refl, sym, ap, subst, subst₂, ◌∙◌}
 use mathlib.Core.Bool.{Bool, true, false, ◌&&◌, ◌||◌, beq}
 use mathlib.Core.Bool
+use Rattle.std.proofs.Math.Bool.{or-true, or-false}
 use mathlib.Core.List.{List, [], ◌∷◌}
 use mathlib.Core.Logic.{◌⊎◌, inl, inr}
 use borrow.Author.Tests.{eq-eqb, ne_eqb}
@@ -22,7 +22,7 @@ use Rattle.records.specs.Acceptance.{Accepted}
 use Rattle.access.specs.declared.RuleAt.{RuleAt}
 use Rattle.access.specs.declared.RuleAt.TheVariants.{Always, NotAfter, OnlyAfter}
 use Rattle.searcher.specs.declared.Status.{Status}
-use Rattle.searcher.specs.Standing.{ExpressionAt, Holds, breaks_after, names}
+use Rattle.searcher.specs.Standing.{ExpressionAt, HeldAs, breaks_after, names}
 
 -- ---- an expression's value in a rule: there are no locals and no arguments, and the code lends zeros
 
@@ -65,20 +65,24 @@ module _ (file : List ℕ) (at : ℕ) where
 -- ---- a rule by the type that the code holds
 
 module _ (file : List ℕ) (r : RuleAt) (P : Rule → Type 0) where
-  pub type-one : (at : ℕ) (rule : Rule) → Holds file rule r → r ≡ Always at → ((e : Expr) → ExpressionAt file at e → P (always e)) → P rule
+  pub type-one : (at : ℕ) (rule : Rule) → HeldAs file rule r → r ≡ Always at → ((e : Expr) → ExpressionAt file at e → P (always e)) → P rule
   type-one at (always e) h k f = let z : h.0 ≡ at = cc (h.1, k) in f e (subst (λ (n : ℕ). ExpressionAt file n e) z h.2)
   type-one at (not_after p q) h k f = absurd cc
   type-one at (only_after p q) h k f = absurd cc
 
-  pub type-two : (p q : ℕ) (rule : Rule) → Holds file rule r → r ≡ NotAfter p q → P (not_after p q) → P rule
+  pub type-two : (p q : ℕ) (rule : Rule) → HeldAs file rule r → r ≡ NotAfter p q → P (not_after p q) → P rule
   type-two p q (always e) h k f = absurd (cc (h.1, k))
   type-two p q (not_after a b) h k f = let y : p ≡ a = cc in let z : q ≡ b = cc in subst₂ (λ p q. P (not_after p q)) y z f
   type-two p q (only_after a b) h k f = absurd cc
 
-  pub type-three : (p q : ℕ) (rule : Rule) → Holds file rule r → r ≡ OnlyAfter p q → P (only_after p q) → P rule
+  pub type-three : (p q : ℕ) (rule : Rule) → HeldAs file rule r → r ≡ OnlyAfter p q → P (only_after p q) → P rule
   type-three p q (always e) h k f = absurd (cc (h.1, k))
   type-three p q (not_after a b) h k f = absurd cc
   type-three p q (only_after a b) h k f = let y : p ≡ a = cc in let z : q ≡ b = cc in subst₂ (λ p q. P (only_after p q)) y z f
+
+-- by the end of the events es a rule has broken from how it stands at t as it has from s with one event before them
+abbrev pub Follows : (t s : Status) → Event → List Event → Rule → Type 0
+Follows t s v es rule = breaks_after rule t es ≡ breaks_after rule s (v ∷ es)
 
 -- ---- how a rule stands at first
 
@@ -87,7 +91,7 @@ pub begins-always : (e : Expr) (s : State) (b : Bool) → b ≡ violated e s →
 unfolding breaks_after breaks_by
 begins-always e s b h es = rw h
 
-pub begins-other : (file : List ℕ) (r : RuleAt) (rule : Rule) → Holds file rule r → ((at : ℕ) → r ≡ Always at → ⊥) → (s : State) (es : List Event)
+pub begins-other : (file : List ℕ) (r : RuleAt) (rule : Rule) → HeldAs file rule r → ((at : ℕ) → r ≡ Always at → ⊥) → (s : State) (es : List Event)
     → breaks_after rule (record { broken = false; seen = false }) es ≡ breaks_by rule s es
 unfolding breaks_after breaks_by
 begins-other file r (always e) h k s es = absurd (k h.0 h.1)
@@ -98,11 +102,7 @@ begins-other file r (only_after p q) h k s es = refl
 
 pub ends : (r : Rule) (s : Status) → breaks_after r s [] ≡ s.broken
 unfolding breaks_after any later unpreceded
-ends (always e) s = go s.broken
-  where
-    go : (b : Bool) → b || false ≡ b
-    go true = refl
-    go false = refl
+ends (always e) s = or-false s.broken
 ends (not_after p q) s = go s.broken s.seen
   where
     go : (b c : Bool) → b || (c && false || false) ≡ b
@@ -119,11 +119,7 @@ ends (only_after p q) s = go s.broken s.seen
 module _ (e : Expr) (s : Status) (v : Event) (es : List Event) where
   pub always-broken : true ≡ violated e v.state → breaks_after (always e) (record { broken = true; seen = s.seen }) es ≡ breaks_after (always e) s (v ∷ es)
   unfolding breaks_after any
-  always-broken h = rw (← h) (go s.broken)
-    where
-      go : (b : Bool) → true ≡ b || true
-      go true = refl
-      go false = refl
+  always-broken h = rw (← h) (sym (or-true s.broken))
 
   pub always-kept : false ≡ violated e v.state → breaks_after (always e) s es ≡ breaks_after (always e) s (v ∷ es)
   unfolding breaks_after any
@@ -150,11 +146,7 @@ unlike false true false h k = refl
 module _ (p q : ℕ) (s : Status) (v : Event) (es : List Event) where
   pub not-after-broken : v.name ≡ p → s.seen ≡ true → breaks_after (not_after p q) (record { broken = true; seen = s.seen }) es ≡ breaks_after (not_after p q) s (v ∷ es)
   unfolding breaks_after any later
-  not-after-broken h k = rw (k, eq-eqb p v.name (sym h)) (go s.broken)
-    where
-      go : (b : Bool) → true ≡ b || true
-      go true = refl
-      go false = refl
+  not-after-broken h k = rw (k, eq-eqb p v.name (sym h)) (sym (or-true s.broken))
 
   pub not-after-counted : (v.name ≡ p → ⊥) ⊎ (s.seen ≡ false) → breaks_after (not_after p q) (counted q s v.name) es ≡ breaks_after (not_after p q) s (v ∷ es)
   unfolding breaks_after any later
@@ -170,11 +162,7 @@ module _ (p q : ℕ) (s : Status) (v : Event) (es : List Event) where
 
   pub only-after-broken : v.name ≡ p → s.seen ≡ false → breaks_after (only_after p q) (record { broken = true; seen = s.seen }) es ≡ breaks_after (only_after p q) s (v ∷ es)
   unfolding breaks_after unpreceded
-  only-after-broken h k = rw (k, eq-eqb v.name p h) (go s.broken)
-    where
-      go : (b : Bool) → true ≡ b || true
-      go true = refl
-      go false = refl
+  only-after-broken h k = rw (k, eq-eqb v.name p h) (sym (or-true s.broken))
 
   pub only-after-counted : (v.name ≡ p → ⊥) ⊎ (s.seen ≡ true) → breaks_after (only_after p q) (counted q s v.name) es ≡ breaks_after (only_after p q) s (v ∷ es)
   unfolding breaks_after unpreceded

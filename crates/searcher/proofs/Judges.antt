@@ -1,5 +1,4 @@
 -- The rule that the code holds.
--- Assumes nothing.
 use Prim.Native.Nat.{ℕ, ◌+◌, ◌<◌}
 use mathlib.Core.Path.{◌≡◌, refl, sym}
 use mathlib.Core.List.{List, map}
@@ -11,10 +10,10 @@ use Rattle.access.specs.declared.Layout.{Layout}
 use Rattle.access.specs.declared.RuleAt.{RuleAt}
 use Rattle.access.specs.Trees.{TreeRead, AcceptedFile}
 use Rattle.access.specs.Places.{past, Laid}
-use Rattle.access.specs.Answers.{rule_from}
-use Rattle.access.proofs.Items.{elem-map, rule-at}
+use Rattle.access.specs.FoundAnswers.{rule_from}
+use Rattle.access.proofs.Items.{elem-here, elem-map, rule-at}
 use Rattle.access.proofs.Using.{condition-at, tree_of}
-use Rattle.searcher.specs.Standing.{ExpressionAt, Holds}
+use Rattle.searcher.specs.Standing.{ExpressionAt, HeldAs}
 
 pub expression-at :
     {file : List ℕ} {l : Layout} (h : Laid file l) (a : TreeRead file) (i at : ℕ) → i < l.rules.count → at ≡ past file l.rules.at i →
@@ -26,17 +25,17 @@ expression-at h a i at less is e k =
 pub held_by :
     {file : List ℕ} {l : Layout} → Laid file l → (a : TreeRead file) (i : ℕ) → i < l.rules.count → (x : Rule) (r : RuleAt) →
     get_elem? a.tree.rules i ≡ some x → get_elem? (map (rule_from (past file l.rules.at i)) a.tree.rules) i ≡ some r →
-    Holds file x r
+    HeldAs file x r
 held_by {file} {l} h a i less x r k m = go x k same
   where
     same : rule_from (past file l.rules.at i) x ≡ r
     same = let n = elem-map (rule_from (past file l.rules.at i)) a.tree.rules i x k in cc
 
-    go : (x : Rule) → get_elem? a.tree.rules i ≡ some x → rule_from (past file l.rules.at i) x ≡ r → Holds file x r
+    go : (x : Rule) → get_elem? a.tree.rules i ≡ some x → rule_from (past file l.rules.at i) x ≡ r → HeldAs file x r
     go (always e) k s = (past file l.rules.at i + 8, sym s, expression-at h a i _ less refl e k)
     go (not_after p q) k s = sym s
     go (only_after p q) k s = sym s
 
 -- the rule that is judged
 pub rule-here : {file : List ℕ} {l : Layout} → Laid file l → (a : AcceptedFile file) (i : ℕ) → i < l.rules.count → (x : Rule) × (get_elem? a.tree.rules i ≡ some x)
-rule-here h a i less = let x = rule-at h i less (tree_of a) _ refl in (x.value, x.here)
+rule-here h a i less = let x = rule-at h i less (tree_of a) _ refl in (x.value, elem-here a.tree.rules i x.value _ x.here)

@@ -4,6 +4,6 @@ pub mod Rulings
 pub mod Lists
 pub mod Positions
 pub mod Caching
-pub mod Answers
+pub mod VerdictAnswers
 pub mod Judges
 pub mod Numbers

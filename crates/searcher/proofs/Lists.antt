@@ -1,5 +1,4 @@
 -- The rows that a verdict shows, and the rows that are read.
--- Assumes nothing.
 use Rattle.std.specs.Prelude.{Result, Ok, Err, MatchResult, IsErrAnd}
 use Prim.Native.Nat.{ℕ, ◌+◌, ◌-◌, ◌≤◌}
 use mathlib.Core.Path.{◌≡◌, refl, sym, ap, subst, ◌∙◌}
@@ -52,7 +51,7 @@ module _ (at row : ℕ) where
     unfolding going continued judged_of judged
     row-shown (broken m k) e h = let w : judged_of (broken (n + m) (replicate (at + 1) 0 ++ k)) ≡ f = cc in rw (← w, row_put k, same_length k)
     row-shown (held m) e h = absurd cc
-    row-shown (spent m) e h = absurd (let w : judged_of (spent (n + m)) ≡ f = cc in let z : ◌≡◌ {A = ℕ} 0 1 = cc in omega arith)
+    row-shown (spent m) e h = absurd (let w : judged_of (spent (n + m)) ≡ f = cc in cc)
 
     -- no other verdict depends on the rows
     pub row-unshown : (v : Ruling) → going (continued n (replicate (at + 1) 0) v) ≡ Err f → ((i j : ℕ) → f.verdict ≡ Broken i j → ⊥)

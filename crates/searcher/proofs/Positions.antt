@@ -1,5 +1,4 @@
 -- A position with the call of one row more.
--- Assumes nothing.
 use Prim.Native.Nat.{ℕ}
 use mathlib.Core.Path.{◌≡◌, sym, ap, fun_ext}
 use mathlib.Core.Bool.{Bool, true, false}

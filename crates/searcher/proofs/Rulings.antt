@@ -4,7 +4,6 @@
 --     pushed            lists that begin with a row are ruled on by what follows the row
 --     goes, stops, done one turn of a loop over the parts, and its end
 --     all_held, ..      lists of which none breaks the rule, ruled on again under another bound
--- Assumes nothing.
 use Rattle.std.specs.Prelude.{if◌then◌else◌, Result, Ok, Err, IsErrAnd}
 use Prim.Native.Nat.{ℕ, zero, suc, ◌+◌, ◌-◌, ◌<◌, ◌≤◌}
 use mathlib.Core.Path.{◌≡◌, refl, sym, ap, fun_ext, ◌∙◌}
@@ -182,12 +181,12 @@ module _ (bound : ℕ) (p : List ℕ → Bool) (l : List ℕ) where
   joined-held n m xs ys h = ap (continued n l) (joined p xs ys (bound - n)) ∙ go (ruled_on (bound - n) p xs) h
     where
       go : (v : Ruling) → continued n l v ≡ held m → continued n l (and_then v (λ j. ruled_on (bound - n - j) p ys)) ≡ onward m ys
-      go (broken i k) h = absurd (let z : ◌≡◌ {A = ℕ} 0 1 = cc in omega arith)
+      go (broken i k) h = absurd cc
       go (held i) h =
           let z : n + i ≡ m = cc in
           let w : bound - n - i ≡ bound - m = omega arith in
           continued-twice n i l [] (ruled_on (bound - n - i) p ys) ∙ rw (append-nil, z, w)
-      go (spent i) h = absurd (let z : ◌≡◌ {A = ℕ} 0 1 = cc in omega arith)
+      go (spent i) h = absurd cc
 
   joined-ends : (n : ℕ) (xs ys : List (List ℕ)) → ((m : ℕ) → onward n xs ≡ held m → ⊥) → onward n (xs ++ ys) ≡ onward n xs
   unfolding continued and_then
@@ -255,8 +254,8 @@ module _ (p : List ℕ → Bool) where
     where
       go : (b : Bool) (f : First) → (if b then at 1 x else one_later f) ≡ nowhere → (f ≡ nowhere → first p (take k xs) ≡ nowhere)
           → (if b then at 1 x else one_later (first p (take k xs))) ≡ nowhere
-      go true f h g = absurd (let z : ◌≡◌ {A = ℕ} 0 1 = cc in omega arith)
-      go false (at n l) h g = absurd (let z : ◌≡◌ {A = ℕ} 0 1 = cc in omega arith)
+      go true f h g = absurd cc
+      go false (at n l) h g = absurd cc
       go false nowhere h g = rw (g refl)
 
   module _ (xs : List (List ℕ)) (n : ℕ) where
@@ -267,12 +266,12 @@ module _ (p : List ℕ → Bool) where
       where
         go : (f : First) (b : Bool) → first p (take k xs) ≡ f → leb (length xs) k ≡ b → ruled_by (length xs) k f ≡ held n
             → (length xs ≡ n) × (n ≤ k) × (first p xs ≡ nowhere)
-        go (at m l) b e d h = absurd (let z : ◌≡◌ {A = ℕ} 0 1 = cc in omega arith)
+        go (at m l) b e d h = absurd cc
         go nowhere true e d h =
             let same : length xs ≡ n = let w = rw d at h in cc in
             let fits : length xs ≤ k = leb-true _ _ d in
             (same, omega arith, rw (take_all k xs fits) at e)
-        go nowhere false e d h = absurd (let w = rw d at h in let z : ◌≡◌ {A = ℕ} 0 1 = cc in omega arith)
+        go nowhere false e d h = absurd (let w = rw d at h in cc)
 
     -- none of the n lists breaks the rule: within a bound that they fit, and where it falls among them
     module _ (none : first p xs ≡ nowhere) (all : length xs ≡ n) (k : ℕ) where
@@ -305,10 +304,10 @@ unfolding continued
 held-alone bound p l t m xs h = go (ruled_on (bound - t) p xs) refl (went-on bound p l (onward bound p l t xs) m (sym h))
   where
     go : (v : Ruling) → ruled_on (bound - t) p xs ≡ v → continued t l v ≡ held m → (t ≤ m) × (ruled_on (m - t) p xs ≡ held (m - t))
-    go (broken i k) d h = absurd (let z : ◌≡◌ {A = ℕ} 0 1 = cc in omega arith)
+    go (broken i k) d h = absurd cc
     go (held i) d h =
         let z : t + i ≡ m = cc in
         let w : m - t ≡ i = omega arith in
         let a = all_held p xs i (bound - t) d in
         (omega arith, rw w (none-held p xs i a.2 a.0 i (omega arith)))
-    go (spent i) d h = absurd (let z : ◌≡◌ {A = ℕ} 0 1 = cc in omega arith)
+    go (spent i) d h = absurd cc

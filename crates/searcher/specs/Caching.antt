@@ -3,8 +3,8 @@ use Rattle.std.specs.Prelude.{ℕ, ◌≡◌, ◌<◌, length, List, [], set, ge
 use Rattle.searcher.specs.declared.cache.Entry.{Entry}
 
 -- an entry stands in one of the pairs
-abbrev pub Stands : (cache : List (List Entry)) (entry : Entry) → Type 0
-Stands cache entry = (pair : List Entry) × Contains cache pair × Contains pair entry
+abbrev pub Cached : (cache : List (List Entry)) (entry : Entry) → Type 0
+Cached cache entry = (pair : List Entry) × Contains cache pair × Contains pair entry
 
 -- one entry of one pair was written, and nothing else; or nothing was
 pub record Stored (before after : List (List Entry)) (entry : Entry) : Type 0 where

@@ -13,7 +13,7 @@ use Rattle.searcher.specs.declared.Position.{Position}
 use Rattle.searcher.specs.declared.cache.Entry.{Entry}
 use Rattle.searcher.specs.declared.cache.Key.{Key}
 use Rattle.searcher.specs.declared.plan.Search.{Search}
-use Rattle.searcher.specs.Standing.{Holds}
+use Rattle.searcher.specs.Standing.{HeldAs}
 use Rattle.searcher.specs.Searching.{continued, breaks_from}
 
 pub record Planned (file words : List ℕ) (fields : Fields) (rule : RuleAt) (rows : List Call) : Type 0 where
@@ -21,7 +21,7 @@ pub record Planned (file words : List ℕ) (fields : Fields) (rule : RuleAt) (ro
   pub expanded : Expanded file words
   pub are_fields : fields ≡ accepted.tree.fields
   pub judged : Rule
-  pub holds : Holds file judged rule
+  pub holds : HeldAs file judged rule
   pub few : length rows ≤ 16
   pub are_rows : (i : ℕ) → i < length rows → get_or rows i no_call ≡ get_or accepted.tree.rows i no_call
 
@@ -38,9 +38,9 @@ module _ {file words : List ℕ} {fields : Fields} {rule : RuleAt} {rows : List 
   ruling_after bound p tried rows lists = continued tried rows (ruled_on (bound - tried) (breaks_in p) lists)
 
 -- the lists of so many rows from a position on are n, and none of them breaks the rule
-abbrev pub NoneBreaks : Search → (n : ℕ) → Key → Type 0
-NoneBreaks s n k = (g : PlannedBy s) → ruled_on n (breaks_in g k.position) (lists_of (length s.rows.now) k.left) ≡ held n
+abbrev pub NoneBreaksFrom : Search → (n : ℕ) → Key → Type 0
+NoneBreaksFrom s n k = (g : PlannedBy s) → ruled_on n (breaks_in g k.position) (lists_of (length s.rows.now) k.left) ≡ held n
 
 -- every entry that is not empty stands for such lists
 abbrev pub Sound : Search → (cache : List (List Entry)) → Type 0
-Sound s cache = All (All (λ (e : Entry). (e.number ≡ 0 → ⊥) → NoneBreaks s e.number e.key)) cache
+Sound s cache = All (All (λ (e : Entry). (e.number ≡ 0 → ⊥) → NoneBreaksFrom s e.number e.key)) cache

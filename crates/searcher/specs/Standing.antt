@@ -15,10 +15,10 @@ pub record ExpressionAt (file : List ℕ) (at : ℕ) (e : Expr) : Type 0 where
   pub accepted : (s : List ℕ) → s ≡ drop at file → (g : Accepted s) × (g.tree ≡ e)
 
 -- the rule that the code holds
-abbrev pub Holds : (file : List ℕ) → Rule → RuleAt → Type 0
-Holds file (always e) r = (at : ℕ) × (r ≡ Always at) × ExpressionAt file at e
-Holds file (not_after p q) r = r ≡ NotAfter p q
-Holds file (only_after p q) r = r ≡ OnlyAfter p q
+abbrev pub HeldAs : (file : List ℕ) → Rule → RuleAt → Type 0
+HeldAs file (always e) r = (at : ℕ) × (r ≡ Always at) × ExpressionAt file at e
+HeldAs file (not_after p q) r = r ≡ NotAfter p q
+HeldAs file (only_after p q) r = r ≡ OnlyAfter p q
 
 abbrev pub names : List Event → List ℕ
 names es = map (λ (v : Event). v.name) es

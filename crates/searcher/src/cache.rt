@@ -1,7 +1,7 @@
 // The cache of a search: the positions from which it has tried all lists of so many rows and found none that breaks the rule, each
 // with the number of those lists. For the search alone: that its entries are sound is a clause of the search.
 ghost use Rattle.std.specs.Prelude.{◌<◌, IfSome};
-ghost use Rattle.searcher.specs.Caching.{Stands, StoredOrNot};
+ghost use Rattle.searcher.specs.Caching.{Cached, StoredOrNot};
 
 use crate::{Position, Status};
 use rules::State;
@@ -94,7 +94,7 @@ pub fn pair_for(count: usize, key: &Key) -> Option<usize>
 
 // The number in a pair's entry for a key, if the cache has it.
 pub fn find(cache: &[Pair], pair: usize, key: &Key) -> Option<u32>
-    ensures found { IfSome result (λ n. Stands cache.now (record { number = n; key = key.now })) }
+    ensures found { IfSome result (λ n. Cached cache.now (record { number = n; key = key.now })) }
     ensures some { IfSome result (λ n. 0 < n) }
 {
     cache

@@ -4,7 +4,7 @@
 // 8 is of what each function has at hand, a length, the rows and those left, or a place.
 ghost use Rattle.std.specs.Prelude.{◌≡◌, Bool, List, [], ◌∷◌, ◌++◌, map, ℕ, ◌+◌, ◌-◌, ◌<◌, ◌≤◌, length, replicate, Err};
 ghost use Rattle.rules.specs.Lists.{lists_of, lists_to};
-ghost use Rattle.rules.specs.Judging.{Ruling, held, is_completed, ruled_on, judged, judged_of};
+ghost use Rattle.rules.specs.Judging.{Ruling, held, ruled_on, judged, judged_of};
 ghost use Rattle.machine.specs.Calls.{Fits};
 ghost use Rattle.searcher.specs.Searching.{continued, going};
 ghost use Rattle.searcher.specs.Plans.{PlannedBy, breaks_in, ruling_after, Sound};
@@ -13,7 +13,8 @@ use crate::Position;
 use crate::cache::{Entry, Key, PAIRS, Pair, find, is_kept, pair_for, store};
 use crate::plan::Search;
 use crate::standing::after;
-use rules::{Answer, Judged, Verdict};
+use machine::outcomes::is_completed;
+use rules::{Judged, Verdict};
 use runner::steps::call_fitting;
 
 // A verdict that shows no list.
@@ -75,13 +76,6 @@ fn with_row(judged: Judged, at: u8, row: u8) -> Judged
         shown.rows[usize::from(at)] = row;
     }
     shown
-}
-
-#[tactic(auto, unfolding(rules::specs::Judging::is_completed))]
-pub fn is_completed(answer: Answer) -> bool
-    ensures { result ≡ is_completed answer }
-{
-    matches!(answer, Answer::Completed(_, _))
 }
 
 impl Search<'_> {

@@ -3,7 +3,7 @@ ghost use Rattle.std.specs.Prelude.{◌≡◌, ◌||◌, List, ◌∷◌, ℕ, e
 ghost use Rattle.rules.specs.declared.State.{State};
 ghost use Rattle.rules.specs.Syntax.{Expr, Rule, always, not_after, only_after};
 ghost use Rattle.rules.specs.Judging.{Event, violated, breaks_by};
-ghost use Rattle.searcher.specs.Standing.{ExpressionAt, Holds, breaks_after};
+ghost use Rattle.searcher.specs.Standing.{ExpressionAt, HeldAs, breaks_after};
 
 use crate::Status;
 use access::RuleAt;
@@ -27,8 +27,8 @@ fn is_violated(file: &[u8], at: usize, state: &State) -> bool
 
 // How the rule stands before any call.
 pub fn at_first(file: &[u8], rule: RuleAt, state: &State) -> Status
-    requires { (x : Rule) × Holds file.now x rule }
-    ensures { (x : Rule) → Holds file.now x rule → (es : List Event) → breaks_after x result es ≡ breaks_by x state.now es }
+    requires { (x : Rule) × HeldAs file.now x rule }
+    ensures { (x : Rule) → HeldAs file.now x rule → (es : List Event) → breaks_after x result es ≡ breaks_by x state.now es }
 {
     let broken = match rule {
         RuleAt::Always(at) => is_violated(file, at, state),
@@ -42,8 +42,8 @@ pub fn at_first(file: &[u8], rule: RuleAt, state: &State) -> Status
 
 // How the rule stands after one completed call more, of this name, that led to this state.
 pub fn after(file: &[u8], rule: RuleAt, status: Status, name: u8, state: &State) -> Status
-    requires { (x : Rule) × Holds file.now x rule }
-    ensures { (x : Rule) → Holds file.now x rule → (es : List Event) →
+    requires { (x : Rule) × HeldAs file.now x rule }
+    ensures { (x : Rule) → HeldAs file.now x rule → (es : List Event) →
         breaks_after x result es ≡ breaks_after x status (record { name = name; state = state.now } ∷ es) }
 {
     match rule {

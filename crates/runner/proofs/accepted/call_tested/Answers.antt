@@ -4,15 +4,14 @@ use mathlib.Core.Path.{sym, ap, ◌∙◌}
 use native.Mathlib.Omega.{arith}
 use Rattle.std.proofs.lemmas.Result.{err_from_is_err_and}
 use Rattle.rules.specs.Calling.{refused_call}
-use Rattle.machine.proofs.Calls.{first-passed}
-use Rattle.access.proofs.Kept.{accepted-of, laid-of}
-use Rattle.access.proofs.Using.{fallback-at, find_at, find-elsewhere, find-unknown, tree-bounds, tree_of}
-use Rattle.runner.proofs.Runs.{standing, accounts-few, asked, moves, call_enters, entered-funded, call-refused, tree-call, tree-elsewhere, tree-unknown, tree-found}
+use Rattle.machine.proofs.Calls.{first-passed, first-refused}
+use Rattle.access.proofs.Using.{find_at, find-elsewhere, find-unknown, tree-bounds, tree_of}
+use Rattle.runner.proofs.Runs.{file_is, fallback_of, standing, accounts-few, asked, moves, call_enters, entered-funded, tree-call, tree-elsewhere, tree-unknown, tree-found}
 use Rattle.runner.proofs.accepted.call_tested.Goals as goal
 
 pub check_call-requires : goal.check_call-requires
 check_call-requires c =
-    let a = (accepted-of c.args.accepted.now.accepted).0 in
+    let a = file_is c.args.accepted.now in
     accounts-few a (c.fields-fields.ensures (tree_of a))
 
 pub returns-in_err-check_call : goal.returns-in_err-check_call
@@ -20,8 +19,8 @@ unfolding refused_call
 returns-in_err-check_call c =
     let p = err_from_is_err_and c.from_residual.result c.from_residual.ensures.1 in
     λ a. rw (p.1, p.2)
-    (call-refused (c.fields-fields.ensures (tree_of a)) c.args.s.now c.args.k.now _ _ (tree-call a.tree c.args.s.now c.args.k.now)
-    (sym c.in_err-check_call.was ∙ c.check_call.ensures))
+    (first-refused _ c.args.s.now c.args.k.now _ _ (sym c.in_err-check_call.was ∙ c.check_call.ensures)
+    ∙ tree-call a.tree (c.fields-fields.ensures (tree_of a)) c.args.s.now c.args.k.now)
 
 pub returns-in_err-found : goal.returns-in_err-found
 unfolding refused_call
@@ -30,31 +29,27 @@ returns-in_err-found c =
     λ a.
     let e = find-elsewhere (tree_of a) _ _ (sym c.in_err-found.was ∙ c.find_transition.ensures (tree_of a)) in
     rw (p.1, p.2)
-    (tree-elsewhere a.tree c.args.s.now c.args.k.now (c.fields-fields.ensures (tree_of a)) (first-passed _ _ _ (sym c.in_ok-check_call.was ∙ c.check_call.ensures)) e.0 e.1)
+    (tree-elsewhere a.tree (c.fields-fields.ensures (tree_of a)) c.args.s.now c.args.k.now
+    (first-passed _ _ _ (sym c.in_ok-check_call.was ∙ c.check_call.ensures)) e.0 e.1)
 
 pub entering-requires : goal.entering-requires
 entering-requires c =
-    let a = (accepted-of c.args.accepted.now.accepted).0 in
-    asked (call_enters a (c.fields-fields.ensures (tree_of a)) (first-passed _ _ _ (sym c.in_ok-check_call.was ∙ c.check_call.ensures)) (omega arith))
+    let a = file_is c.args.accepted.now in
+    let p = first-passed _ _ _ (sym c.in_ok-check_call.was ∙ c.check_call.ensures) in
+    asked (call_enters a (c.fields-fields.ensures (tree_of a)) p (omega arith))
 
 -- the fallback action
 pub slice_bounds-run_statement-start : goal.slice_bounds-run_statement-start
-slice_bounds-run_statement-start c =
-    let a = (accepted-of c.args.accepted.now.accepted).0 in
-    let x = fallback-at (laid-of c.args.accepted.now.parsed.laid) (tree_of a) in
-    omega (arith, x.fits)
+slice_bounds-run_statement-start c = let x = c.args.accepted.now in omega (arith, (fallback_of x (file_is x)).fits)
 
 pub slice_bounds-run_statement-count : goal.slice_bounds-run_statement-count
-slice_bounds-run_statement-count c =
-    let a = (accepted-of c.args.accepted.now.accepted).0 in
-    let x = fallback-at (laid-of c.args.accepted.now.parsed.laid) (tree_of a) in
-    omega (arith, x.fits)
+slice_bounds-run_statement-count c = let x = c.args.accepted.now in omega (arith, (fallback_of x (file_is x)).fits)
 
 pub run_statement-run-requires : goal.run_statement-run-requires
 run_statement-run-requires c =
-    let a = (accepted-of c.args.accepted.now.accepted).0 in
+    let a = file_is c.args.accepted.now in
     let p = first-passed _ _ _ (sym c.in_ok-check_call.was ∙ c.check_call.ensures) in (
-      (standing {tree = a.tree.fallback} (fallback-at (laid-of c.args.accepted.now.parsed.laid) (tree_of a))).0,
+      (standing (fallback_of c.args.accepted.now a)).0,
       entered-funded a (c.fields-fields.ensures (tree_of a)) p (omega arith) c.entering.ensures.0 c.entering.ensures.1,
     )
 
@@ -63,27 +58,28 @@ returns-in-None c = λ a.
     let t = tree_of a in
     let p = first-passed _ _ _ (sym c.in_ok-check_call.was ∙ c.check_call.ensures) in
     let e = find-unknown t _ _ (sym (c.in_ok-found.was ∙ ap Ok c.in-None.is) ∙ c.find_transition.ensures t) in
-    let x = standing {tree = a.tree.fallback} (fallback-at (laid-of c.args.accepted.now.parsed.laid) t) in
+    let x = standing (fallback_of c.args.accepted.now a) in
     let r = c.run_statement-run.ensures x.0 in
     c.called.ensures
-    ∙ rw (rw x.1 at r) (tree-unknown a.tree c.args.s.now c.args.k.now (c.fields-fields.ensures t) p c.entering.ensures.0 c.entering.ensures.1 e.0 e.1)
+    ∙ rw (rw x.1 at r)
+    (tree-unknown a.tree (c.fields-fields.ensures t) c.args.s.now c.args.k.now p c.entering.ensures.0 c.entering.ensures.1 e.0 e.1)
 
 -- the transition that was found
 pub overflow_add-at : goal.overflow_add-at
 overflow_add-at c =
-    let t = tree_of (accepted-of c.args.accepted.now.accepted).0 in
+    let t = tree_of (file_is c.args.accepted.now) in
     let x = find_at t _ _ _ (sym (c.in_ok-found.was ∙ ap Ok c.in-Some.is) ∙ c.find_transition.ensures t) in
     omega (arith, x.record-at.fits, (tree-bounds t).size)
 
 pub bounds-parsed-at : goal.bounds-parsed-at
 bounds-parsed-at c =
-    let t = tree_of (accepted-of c.args.accepted.now.accepted).0 in
+    let t = tree_of (file_is c.args.accepted.now) in
     let x = find_at t _ _ _ (sym (c.in_ok-found.was ∙ ap Ok c.in-Some.is) ∙ c.find_transition.ensures t) in
     omega (arith, x.record-at.fits, (tree-bounds t).size)
 
 pub run_transition-run-requires : goal.run_transition-run-requires
 run_transition-run-requires c =
-    let a = (accepted-of c.args.accepted.now.accepted).0 in
+    let a = file_is c.args.accepted.now in
     let t = tree_of a in
     let p = first-passed _ _ _ (sym c.in_ok-check_call.was ∙ c.check_call.ensures) in (
       (moves (find_at t _ _ _ (sym (c.in_ok-found.was ∙ ap Ok c.in-Some.is) ∙ c.find_transition.ensures t))).0,
@@ -99,4 +95,5 @@ returns-in-Some c = λ a.
     let r = c.run_transition-run.ensures v.0 in
     c.called-in-Some.ensures
     ∙ rw (rw (v.1, v.2) at r)
-    (tree-found a.tree c.args.s.now c.args.k.now (c.fields-fields.ensures t) p c.entering.ensures.0 c.entering.ensures.1 x.transition x.is (x.record-at.to ∙ sym c.from-to.ensures))
+    (tree-found a.tree (c.fields-fields.ensures t) c.args.s.now c.args.k.now p c.entering.ensures.0 c.entering.ensures.1
+    x.transition x.is (x.record-at.to ∙ sym c.from-to.ensures))

@@ -1,9 +1,10 @@
 -- `call_lent` meets its contract: the file, the tests 9, 11 and 12, and then the call on the steps.
 use mathlib.Core.Path.{sym, ◌∙◌}
 use Rattle.std.proofs.lemmas.Result.{err_from_is_err_and}
-use Rattle.machine.proofs.Calls.{test_passed, test_refused}
+use Rattle.machine.proofs.Calls.{test-passed}
 use Rattle.access.proofs.Kept.{accepted-of, steps-are, accepted-moved}
 use Rattle.access.proofs.Using.{refused-file, tree_of}
+use Rattle.runner.proofs.Runs.{file_is, file_moved}
 use Rattle.runner.proofs.Lent.{file-of, beginning, file-call, lent-sender, lent-words, call-lent, tabled}
 use Rattle.runner.proofs.expanded.call_lent.Goals as goal
 
@@ -15,18 +16,18 @@ returns-in_err-accepted c =
 pub returns-in_err-check_sender : goal.returns-in_err-check_sender
 returns-in_err-check_sender c =
     let p = err_from_is_err_and c.from_residual-in_err-check_sender.result c.from_residual-in_err-check_sender.ensures.1 in
-    let a = (accepted-of c.in_ok-accepted.accepted.accepted).0 in
-    let t = test_refused 9 (sym c.in_err-check_sender.was ∙ c.check_sender.ensures) in
-    rw (p.1, p.2, t.1)
-    (lent-sender _ _ (accepted-moved (sym c.in_ok-accepted.ensures.0) a) c.args.s.now c.args.k.now (c.fields-fields.ensures (tree_of a)) t.0)
+    let a = file_is c.in_ok-accepted.accepted in
+    rw (p.1, p.2)
+    (lent-sender _ _ (file_moved c.in_ok-accepted.accepted c.in_ok-accepted.ensures.0) c.args.s.now c.args.k.now (c.fields-fields.ensures (tree_of a))
+    (sym c.in_err-check_sender.was ∙ c.check_sender.ensures))
 
 pub returns-in_err-check_words : goal.returns-in_err-check_words
 returns-in_err-check_words c =
     let p = err_from_is_err_and c.from_residual-in_err-check_words.result c.from_residual-in_err-check_words.ensures.1 in
-    let a = (accepted-of c.in_ok-accepted.accepted.accepted).0 in
+    let a = file_is c.in_ok-accepted.accepted in
     rw (p.1, p.2)
-    (lent-words _ _ (accepted-moved (sym c.in_ok-accepted.ensures.0) a) c.args.s.now c.args.k.now (c.fields-fields.ensures (tree_of a))
-    (test_passed 9 (sym c.in_ok-check_sender.was ∙ c.check_sender.ensures)) (sym c.in_err-check_words.was ∙ c.check_words.ensures.is a))
+    (lent-words _ _ (file_moved c.in_ok-accepted.accepted c.in_ok-accepted.ensures.0) c.args.s.now c.args.k.now (c.fields-fields.ensures (tree_of a))
+    (test-passed 9 (sym c.in_ok-check_sender.was ∙ c.check_sender.ensures)) (sym c.in_err-check_words.was ∙ c.check_words.ensures.is a))
 
 pub index_nodes-nodes-requires : goal.index_nodes-nodes-requires
 index_nodes-nodes-requires c =
@@ -41,7 +42,8 @@ index_entries-entries-requires c =
 pub invariant_of-steps : goal.invariant_of-steps
 invariant_of-steps c =
     let h = accepted-of c.in_ok-accepted.accepted.accepted in
-    let e = beginning (accepted-moved (sym c.in_ok-accepted.ensures.0) h.0) (sym c.in_ok-check_words.was ∙ c.check_words.ensures.is h.0) in
+    let b = file_moved c.in_ok-accepted.accepted c.in_ok-accepted.ensures.0 in
+    let e = beginning b (sym c.in_ok-check_words.was ∙ c.check_words.ensures.is h.0) in
     record { walkable = ∣ record { expanded = e; indexed = c.index_nodes-nodes.ensures _ e h.1; counts = c.fields-fields.ensures (tree_of h.0) } ∣₁ }
 
 pub invariant_of-p : goal.invariant_of-p
@@ -52,6 +54,6 @@ invariant_of-p c =
 pub returns : goal.returns
 returns c =
     let h = accepted-of c.in_ok-accepted.accepted.accepted in
-    let b = accepted-moved (sym c.in_ok-accepted.ensures.0) h.0 in
+    let b = file_moved c.in_ok-accepted.accepted c.in_ok-accepted.ensures.0 in
     let e = beginning b (sym c.in_ok-check_words.was ∙ c.check_words.ensures.is h.0) in
     c.call_prepared.ensures e ∙ call-lent _ _ b e.begins c.args.s.now c.args.k.now

@@ -1,8 +1,9 @@
 -- `start_lent` meets its contract: the file, the tests 11 and 12, and then the start on the steps.
 use mathlib.Core.Path.{sym, ◌∙◌}
 use Rattle.std.proofs.lemmas.Result.{err_from_is_err_and}
-use Rattle.access.proofs.Kept.{accepted-of, accepted-moved}
+use Rattle.access.proofs.Kept.{accepted-of}
 use Rattle.access.proofs.Using.{refused-file, tree_of}
+use Rattle.runner.proofs.Runs.{file_is, file_moved}
 use Rattle.runner.proofs.Lent.{beginning, file-start, start-refused, start-lent, tabled}
 use Rattle.runner.proofs.expanded.start_lent.Goals as goal
 
@@ -14,8 +15,10 @@ returns-in_err-accepted c =
 pub returns-in_err-check_words : goal.returns-in_err-check_words
 returns-in_err-check_words c =
     let p = err_from_is_err_and c.from_residual-in_err-check_words.result c.from_residual-in_err-check_words.ensures.1 in
-    let a = (accepted-of c.in_ok-accepted.accepted.accepted).0 in
-    rw (p.1, p.2) (start-refused _ _ (accepted-moved (sym c.in_ok-accepted.ensures.0) a) (sym c.in_err-check_words.was ∙ c.check_words.ensures.is a))
+    let a = file_is c.in_ok-accepted.accepted in
+    rw (p.1, p.2)
+    (start-refused _ _ (file_moved c.in_ok-accepted.accepted c.in_ok-accepted.ensures.0)
+    (sym c.in_err-check_words.was ∙ c.check_words.ensures.is a))
 
 pub index_nodes-nodes-requires : goal.index_nodes-nodes-requires
 index_nodes-nodes-requires c =
@@ -25,11 +28,13 @@ index_nodes-nodes-requires c =
 pub invariant_of-start_prepared : goal.invariant_of-start_prepared
 invariant_of-start_prepared c =
     let h = accepted-of c.in_ok-accepted.accepted.accepted in
-    let e = beginning (accepted-moved (sym c.in_ok-accepted.ensures.0) h.0) (sym c.in_ok-check_words.was ∙ c.check_words.ensures.is h.0) in
+    let b = file_moved c.in_ok-accepted.accepted c.in_ok-accepted.ensures.0 in
+    let e = beginning b (sym c.in_ok-check_words.was ∙ c.check_words.ensures.is h.0) in
     record { walkable = ∣ record { expanded = e; indexed = c.index_nodes-nodes.ensures _ e h.1; counts = c.fields.ensures (tree_of h.0) } ∣₁ }
 
 pub returns : goal.returns
 returns c =
     let h = accepted-of c.in_ok-accepted.accepted.accepted in
-    let e = beginning (accepted-moved (sym c.in_ok-accepted.ensures.0) h.0) (sym c.in_ok-check_words.was ∙ c.check_words.ensures.is h.0) in
-    c.start_prepared.ensures e ∙ start-lent _ _ (accepted-moved (sym c.in_ok-accepted.ensures.0) h.0) e.begins
+    let b = file_moved c.in_ok-accepted.accepted c.in_ok-accepted.ensures.0 in
+    let e = beginning b (sym c.in_ok-check_words.was ∙ c.check_words.ensures.is h.0) in
+    c.start_prepared.ensures e ∙ start-lent _ _ b e.begins

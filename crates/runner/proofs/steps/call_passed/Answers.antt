@@ -7,7 +7,7 @@ use Rattle.rules.specs.Expanding.{expansion}
 use Rattle.rules.specs.Calling.{called, refused_call}
 use Rattle.walker.specs.Tables.{EntryFound}
 use Rattle.walker.proofs.Walks.{walkable, fields-of}
-use Rattle.runner.proofs.Runs.{asked, call_enters, setting-fields, entered-funded}
+use Rattle.runner.proofs.Runs.{asked, call_enters, entered-funded}
 use Rattle.runner.proofs.Lent.{file-of, entry-met, reached, refused, steps-elsewhere, steps-run, not-elsewhere}
 use Rattle.runner.proofs.steps.call_passed.Goals as goal
 
@@ -17,7 +17,7 @@ returns-in_err-entry c =
     let p = err_from_is_err_and c.from_residual.result c.from_residual.ensures.1 in
     λ a.
     let x = subst (EntryFound (expansion a.tree) _ _) c.in_err-entry.was (c.find_entry.ensures a) in
-    rw (p.1, p.2) (steps-elsewhere _ a.tree c.args.s.now c.args.k.now (fields-of (walkable c.args.p.now.steps.walkable) a) c.requires x.0 x.1)
+    rw (p.1, p.2) (steps-elsewhere _ a.tree (fields-of (walkable c.args.p.now.steps.walkable) a) c.args.s.now c.args.k.now c.requires x.0 x.1)
 
 pub entering-requires : goal.entering-requires
 entering-requires c =
@@ -29,15 +29,17 @@ run-requires c =
     let w = walkable c.args.p.now.steps.walkable in
     let i = c.entering.ensures.1 in (
       entered-funded (file-of w.expanded) w.counts c.requires (omega arith) c.entering.ensures.0 i,
-      λ a. (setting-fields c.args.s.now c.args.k.now i ∙ fields-of w a, entry-met (expansion a.tree) _ c.args.s.now c.args.k.now (Ok c.in_ok-entry.entry) i (subst (EntryFound (expansion a.tree) _ _) c.in_ok-entry.was (c.find_entry.ensures a))),
+      λ a.
+          let x = subst (EntryFound (expansion a.tree) _ _) c.in_ok-entry.was (c.find_entry.ensures a) in
+          entry-met (expansion a.tree) _ c.args.s.now c.args.k.now (Ok c.in_ok-entry.entry) i x,
     )
 
 pub returns-in-Ok : goal.returns-in-Ok
 returns-in-Ok c = λ a.
     let f = fields-of (walkable c.args.p.now.steps.walkable) a in
     let i = c.entering.ensures.1 in
-    c.called.ensures ∙ ap (called c.args.s.now) (reached c.entering.result.1 _ (c.in-Ok.ensures a) c.from.ensures c.settle-state.ensures)
-    ∙ steps-run _ a.tree c.args.s.now c.args.k.now f c.requires
+    c.called.ensures ∙ ap (called c.args.s.now) (reached c.entering.result.1 _ (c.in-Ok.ensures a) c.settle.ensures)
+    ∙ steps-run _ a.tree f c.args.s.now c.args.k.now c.requires
     (not-elsewhere _ _ _ _ (subst (EntryFound (expansion a.tree) _ _) c.in_ok-entry.was (c.find_entry.ensures a))) c.entering.ensures.0 i
 
 pub returns-in-Err : goal.returns-in-Err
@@ -45,5 +47,5 @@ returns-in-Err c = λ a.
     let f = fields-of (walkable c.args.p.now.steps.walkable) a in
     let i = c.entering.ensures.1 in
     c.called-in-Err.ensures ∙ ap (called c.args.s.now) (refused c.entering.result.1 _ _ _ _ (c.in-Err.ensures a))
-    ∙ steps-run _ a.tree c.args.s.now c.args.k.now f c.requires
+    ∙ steps-run _ a.tree f c.args.s.now c.args.k.now c.requires
     (not-elsewhere _ _ _ _ (subst (EntryFound (expansion a.tree) _ _) c.in_ok-entry.was (c.find_entry.ensures a))) c.entering.ensures.0 i

@@ -2,9 +2,9 @@
 use mathlib.Core.Path.{sym, ◌∙◌}
 use Rattle.std.proofs.lemmas.Result.{err_from_is_err_and}
 use Rattle.rules.specs.Calling.{refused_call}
-use Rattle.machine.proofs.Calls.{first-passed}
+use Rattle.machine.proofs.Calls.{first-passed, first-refused}
 use Rattle.walker.proofs.Walks.{walkable, fields-of}
-use Rattle.runner.proofs.Runs.{accounts-few, call-refused}
+use Rattle.runner.proofs.Runs.{accounts-few}
 use Rattle.runner.proofs.Lent.{file-of, steps-call}
 use Rattle.runner.proofs.steps.call_tested.Goals as goal
 
@@ -16,8 +16,8 @@ unfolding refused_call
 returns-in_err-check_call c =
     let p = err_from_is_err_and c.from_residual.result c.from_residual.ensures.1 in
     λ a. rw (p.1, p.2)
-    (call-refused (fields-of (walkable c.args.p.now.steps.walkable) a) c.args.s.now c.args.k.now _ _ (steps-call _ a.tree c.args.s.now c.args.k.now)
-    (sym c.in_err-check_call.was ∙ c.check_call.ensures))
+    (first-refused _ c.args.s.now c.args.k.now _ _ (sym c.in_err-check_call.was ∙ c.check_call.ensures)
+    ∙ steps-call _ a.tree (fields-of (walkable c.args.p.now.steps.walkable) a) c.args.s.now c.args.k.now)
 
 pub call_passed-requires : goal.call_passed-requires
 call_passed-requires c = first-passed _ _ _ (sym c.in_ok-check_call.was ∙ c.check_call.ensures)

@@ -8,16 +8,14 @@ use Rattle.runner.proofs.steps.run.Goals as goal
 
 pub enter-requires : goal.enter-requires
 enter-requires c =
-    (λ a. let x = subst (EntryFound (expansion a.tree) _ _) (ap Ok c.in-Some.is) (c.requires.1 a).1 in (x.0, x.1), c.requires.0)
+    (λ a. let x = subst (EntryFound (expansion a.tree) _ _) (ap Ok c.in-Some.is) (c.requires.1 a) in (x.0, x.1), c.requires.0)
 
 pub returns-in-Some : goal.returns-in-Some
 returns-in-Some c = λ a.
-    let r = c.requires.1 a in
-    let x = subst (EntryFound (expansion a.tree) _ _) (ap Ok c.in-Some.is) r.1 in
-    rw x.2 (c.enter.ensures a x.0 x.1.here r.0)
+    let x = subst (EntryFound (expansion a.tree) _ _) (ap Ok c.in-Some.is) (c.requires.1 a) in
+    rw x.2 (c.enter.ensures a x.0 x.1.here)
 
 pub returns-in-None : goal.returns-in-None
 returns-in-None c = λ a.
-    let r = c.requires.1 a in
-    let x = subst (EntryFound (expansion a.tree) _ _) (ap Ok c.in-None.is) r.1 in
-    from-fallback _ a.tree _ _ r.0 c.from.ensures (c.walk.ensures a r.0) x.1
+    let x = subst (EntryFound (expansion a.tree) _ _) (ap Ok c.in-None.is) (c.requires.1 a) in
+    from-fallback _ a.tree _ _ c.from.ensures (c.walk.ensures a) x.1

@@ -1,9 +1,8 @@
 -- `start_prepared` meets its contract: the run from the initial action's entry, on the opening state.
-use mathlib.Core.Path.{sym, ap, ◌∙◌}
-use Rattle.rules.specs.declared.Fields.{Fields}
+use mathlib.Core.Path.{ap, ◌∙◌}
 use Rattle.rules.specs.Calling.{started}
 use Rattle.walker.proofs.Walks.{walkable, fields-of}
-use Rattle.runner.proofs.Runs.{opening-small, start-fields, started-funded}
+use Rattle.runner.proofs.Runs.{opening-small, started-funded}
 use Rattle.runner.proofs.Lent.{file-of, reached, refused, start-in}
 use Rattle.runner.proofs.steps.start_prepared.Goals as goal
 
@@ -18,13 +17,13 @@ walk-requires c =
 pub returns-in-Ok : goal.returns-in-Ok
 returns-in-Ok c = λ a.
     let f = fields-of (walkable c.args.steps.now.walkable) a in
-    let i = start-fields c.starting.ensures.1 in
-    c.started.ensures ∙ ap started (reached c.starting.result.1 _ (c.in-Ok.ensures a (i ∙ f)) (c.from-states.ensures ∙ sym (ap (λ (f : Fields). f.states) i)) c.settle.ensures)
-    ∙ start-in _ a.tree f c.from-states.ensures c.starting.ensures.0 c.starting.ensures.1
+    let i = c.starting.ensures.1 in
+    c.started.ensures ∙ ap started (reached c.starting.result.1 _ (c.in-Ok.ensures a) c.settle.ensures)
+    ∙ start-in _ a.tree f c.from.ensures c.starting.ensures.0 i
 
 pub returns-in-Err : goal.returns-in-Err
 returns-in-Err c = λ a.
     let f = fields-of (walkable c.args.steps.now.walkable) a in
-    let i = start-fields c.starting.ensures.1 in
-    c.started-in-Err.ensures ∙ ap started (refused c.starting.result.1 _ _ _ _ (c.in-Err.ensures a (i ∙ f)))
-    ∙ start-in _ a.tree f c.from-states.ensures c.starting.ensures.0 c.starting.ensures.1
+    let i = c.starting.ensures.1 in
+    c.started-in-Err.ensures ∙ ap started (refused c.starting.result.1 _ _ _ _ (c.in-Err.ensures a))
+    ∙ start-in _ a.tree f c.from.ensures c.starting.ensures.0 i

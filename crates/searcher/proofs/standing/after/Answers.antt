@@ -1,9 +1,8 @@
 -- By the rule's type.
-use mathlib.Core.Path.{◌≡◌, refl}
-use mathlib.Core.List.{◌∷◌}
+use mathlib.Core.Path.{refl}
 use Rattle.rules.specs.Syntax.{Expr}
-use Rattle.searcher.specs.Standing.{ExpressionAt, breaks_after}
-use Rattle.searcher.proofs.Events.{type-one, type-two, type-three}
+use Rattle.searcher.specs.Standing.{ExpressionAt}
+use Rattle.searcher.proofs.Events.{Follows, type-one, type-two, type-three}
 use Rattle.searcher.proofs.standing.after.Goals as goal
 
 pub after_always-requires : goal.after_always-requires
@@ -14,23 +13,18 @@ after_always-requires c =
 pub returns-in-Always : goal.returns-in-Always
 returns-in-Always c = λ rule h es.
     let a = c.args in
-    let s = a.state.now in
-    type-one a.file.now a.rule
-    (λ rule. breaks_after rule c.after_always.result es ≡ breaks_after rule a.status (record { name = a.name; state = s } ∷ es))
-    _ rule h c.in-Always.is (λ e k. c.after_always.ensures e k a.name es)
+    type-one a.file.now a.rule (Follows c.after_always.result a.status (record { name = a.name; state = a.state.now }) es) _ rule h c.in-Always.is
+    (λ e k. c.after_always.ensures e k a.name es)
 
 pub returns-in-NotAfter : goal.returns-in-NotAfter
 returns-in-NotAfter c = λ rule h es.
     let a = c.args in
-    let s = a.state.now in
-    type-two a.file.now a.rule
-    (λ rule. breaks_after rule c.after_named.result es ≡ breaks_after rule a.status (record { name = a.name; state = s } ∷ es))
-    _ _ rule h c.in-NotAfter.is (c.after_named.ensures.not_after refl s es)
+    type-two a.file.now a.rule (Follows c.after_named.result a.status (record { name = a.name; state = a.state.now }) es) _ _ rule h c.in-NotAfter.is
+    (c.after_named.ensures.not_after refl a.state.now es)
 
 pub returns-in-OnlyAfter : goal.returns-in-OnlyAfter
 returns-in-OnlyAfter c = λ rule h es.
     let a = c.args in
-    let s = a.state.now in
-    type-three a.file.now a.rule
-    (λ rule. breaks_after rule c.after_named-in-OnlyAfter.result es ≡ breaks_after rule a.status (record { name = a.name; state = s } ∷ es))
-    _ _ rule h c.in-OnlyAfter.is (c.after_named-in-OnlyAfter.ensures.only_after refl s es)
+    let t = c.after_named-in-OnlyAfter in
+    type-three a.file.now a.rule (Follows t.result a.status (record { name = a.name; state = a.state.now }) es) _ _ rule h c.in-OnlyAfter.is
+    (t.ensures.only_after refl a.state.now es)

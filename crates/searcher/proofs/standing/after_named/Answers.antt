@@ -24,11 +24,17 @@ returns-clause-not_after c = λ b s es.
     let a = c.args in
     ap (λ (t : Status). breaks_after (not_after a.p a.q) t es) c.counted.ensures
     ∙ not-after-counted a.p a.q a.status (record { name = a.name; state = s }) es
-    (elim c.else-name-p.branch [ else-name-p-via-then-name-p+else-status-breaking w ↦ inr (unlike _ _ false w.if-status-breaking.false b) | else-name-p-via-else-name-p w ↦ inl w.if-name-p.false ])
+    (elim c.else-name-p.branch [
+      | else-name-p-via-then-name-p+else-status-breaking w ↦ inr (unlike _ _ false w.if-status-breaking.false b)
+      | else-name-p-via-else-name-p w ↦ inl w.if-name-p.false
+    ])
 
 pub returns-clause-only_after : goal.returns-clause-only_after
 returns-clause-only_after c = λ b s es.
     let a = c.args in
     ap (λ (t : Status). breaks_after (only_after a.p a.q) t es) c.counted.ensures
     ∙ only-after-counted a.p a.q a.status (record { name = a.name; state = s }) es
-    (elim c.else-name-p.branch [ else-name-p-via-then-name-p+else-status-breaking w ↦ inr (unlike _ _ true w.if-status-breaking.false b) | else-name-p-via-else-name-p w ↦ inl w.if-name-p.false ])
+    (elim c.else-name-p.branch [
+      | else-name-p-via-then-name-p+else-status-breaking w ↦ inr (unlike _ _ true w.if-status-breaking.false b)
+      | else-name-p-via-else-name-p w ↦ inl w.if-name-p.false
+    ])

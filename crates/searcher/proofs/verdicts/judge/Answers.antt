@@ -5,10 +5,11 @@ use native.Mathlib.Omega.{arith}
 use Rattle.std.proofs.lemmas.Result.{err_from_is_err_and}
 use Rattle.rules.specs.declared.Outcome.{Outcome}
 use Rattle.rules.specs.Judging.{is_completed}
-use Rattle.access.proofs.Kept.{accepted-of, laid-of, accepted-moved}
+use Rattle.access.proofs.Kept.{laid-of}
 use Rattle.access.proofs.Using.{counts, tree_of, refused-file}
-use Rattle.expansion.proofs.Answers.{room-refused, room-found}
-use Rattle.searcher.proofs.Answers.{no-file, no-rule, few_words, failed-start, was-judged, start_fits, written-words}
+use Rattle.expansion.proofs.ExpandAnswers.{room-refused, room-found}
+use Rattle.runner.proofs.Runs.{file_is, file_moved}
+use Rattle.searcher.proofs.VerdictAnswers.{no-file, no-rule, few_words, failed-start, was-judged, start_fits, written-words}
 use Rattle.searcher.proofs.Judges.{rule-here}
 use Rattle.searcher.proofs.verdicts.judge.Goals as goal
 
@@ -19,10 +20,10 @@ returns-in_err-accepted c =
 
 pub returns-then-accepted-i : goal.returns-then-accepted-i
 returns-then-accepted-i c =
-    let a = (accepted-of c.in_ok-accepted.accepted.accepted).0 in
+    let x = c.in_ok-accepted.accepted in
     rw c.placeless.ensures
-    (no-rule (accepted-moved (sym c.in_ok-accepted.ensures.0) a) c.args.words.now c.args.i
-    (omega (arith, c.if-accepted-i.true, (counts (laid-of c.in_ok-accepted.accepted.parsed.laid) (tree_of a)).2)))
+    (no-rule (file_moved x c.in_ok-accepted.ensures.0) c.args.words.now c.args.i
+    (omega (arith, c.if-accepted-i.true, (counts (laid-of x.parsed.laid) (tree_of (file_is x))).2)))
 
 completed : {o s : Outcome} {b : Bool} → b ≡ is_completed o.answer → o ≡ s → (v : Bool) → b ≡ v → is_completed s.answer ≡ v
 completed e o v h = ap (λ (o : Outcome). is_completed o.answer) (sym o) ∙ sym e ∙ h
@@ -30,16 +31,16 @@ completed e o v h = ap (λ (o : Outcome). is_completed o.answer) (sym o) ∙ sym
 pub returns-in_err-check_room : goal.returns-in_err-check_room
 returns-in_err-check_room c =
     let p = err_from_is_err_and c.from_residual-in_err-check_room.result c.from_residual-in_err-check_room.ensures.1 in
-    let a = (accepted-of c.in_ok-accepted.accepted.accepted).0 in
-    let b = accepted-moved (sym c.in_ok-accepted.ensures.0) a in
+    let a = file_is c.in_ok-accepted.accepted in
+    let b = file_moved c.in_ok-accepted.accepted c.in_ok-accepted.ensures.0 in
     let x = rule-here (laid-of c.in_ok-accepted.accepted.parsed.laid) a c.args.i (omega (arith, c.if-accepted-i.false)) in
     let t = room-refused _ (sym c.in_err-check_room.was ∙ c.check_room.ensures.is a) in
     rw (p.1, p.2, t.1) (few_words b c.args.words.now c.args.i x.0 x.1 t.0)
 
 pub returns-then-not-is_completed : goal.returns-then-not-is_completed
 returns-then-not-is_completed c =
-    let a = (accepted-of c.in_ok-accepted.accepted.accepted).0 in
-    let b = accepted-moved (sym c.in_ok-accepted.ensures.0) a in
+    let a = file_is c.in_ok-accepted.accepted in
+    let b = file_moved c.in_ok-accepted.accepted c.in_ok-accepted.ensures.0 in
     let x = rule-here (laid-of c.in_ok-accepted.accepted.parsed.laid) a c.args.i (omega (arith, c.if-accepted-i.false)) in
     rw c.placeless-then-not-is_completed.ensures
     (failed-start b c.args.words.now c.args.i x.0 x.1 (room-found _ (sym c.in_ok-check_room.was ∙ c.check_room.ensures.is a))
@@ -47,7 +48,7 @@ returns-then-not-is_completed c =
 
 pub judge_written-requires : goal.judge_written-requires
 judge_written-requires c =
-    let a = (accepted-of c.in_ok-accepted.accepted.accepted).0 in (
+    let a = file_is c.in_ok-accepted.accepted in (
       record { tree = a.tree; is = a.is; begins = written-words a c.args.words.now (c.write_expansion.ensures a) },
       omega (arith, c.if-accepted-i.false),
       λ a. start_fits a (c.start_accepted-started.ensures a) (sym c.is_completed.ensures ∙ c.if-not-is_completed.false),
@@ -55,8 +56,8 @@ judge_written-requires c =
 
 pub returns : goal.returns
 returns c =
-    let a = (accepted-of c.in_ok-accepted.accepted.accepted).0 in
-    let b = accepted-moved (sym c.in_ok-accepted.ensures.0) a in
+    let a = file_is c.in_ok-accepted.accepted in
+    let b = file_moved c.in_ok-accepted.accepted c.in_ok-accepted.ensures.0 in
     let x = rule-here (laid-of c.in_ok-accepted.accepted.parsed.laid) a c.args.i (omega (arith, c.if-accepted-i.false)) in
     let o = c.start_accepted-started.ensures a in
     let done = completed c.is_completed.ensures o true c.if-not-is_completed.false in

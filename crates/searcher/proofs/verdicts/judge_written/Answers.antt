@@ -19,7 +19,7 @@ use Rattle.runner.proofs.Lent.{file-of, tabled}
 use Rattle.walker.specs.Tables.{Expanded}
 use Rattle.machine.specs.Calls.{Fits}
 use Rattle.searcher.specs.Plans.{Planned}
-use Rattle.searcher.specs.Standing.{Holds}
+use Rattle.searcher.specs.Standing.{HeldAs}
 use Rattle.searcher.proofs.Judges.{held_by, rule-here}
 use Rattle.searcher.proofs.Positions.{ruling-by}
 use Rattle.searcher.proofs.verdicts.judge_written.Goals as goal
@@ -63,7 +63,7 @@ slice_bounds-search-end c = taken (laid-of c.args.accepted.now.parsed.laid) c.ro
 
 -- what the search goes by
 abbrev planned : {file words : List ℕ} {fields : Fields} {judge : RuleAt} {rows : List Call} (e : Expanded file words) (a : AcceptedFile file)
-    → fields ≡ a.tree.fields → rows ≡ a.tree.rows → (x : Rule) → Holds file x judge → Planned file words fields judge rows
+    → fields ≡ a.tree.fields → rows ≡ a.tree.rows → (x : Rule) → HeldAs file x judge → Planned file words fields judge rows
 planned e a fields rows x holds =
     record {
       accepted = a;

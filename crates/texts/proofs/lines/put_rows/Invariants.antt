@@ -2,7 +2,7 @@ use Rattle.std.proofs.Common.{◌≡◌, ◌+◌, ◌*◌, ◌≤◌, ◌++◌, 
 use lib.ListN.{take}
 use Rattle.rules.specs.Basics.{joined}
 use Rattle.rules.specs.Reporting.{spaced}
-use Rattle.reporter.proofs.lines.put_rows.Given as goal
+use Rattle.texts.proofs.lines.put_rows.Given as goal
 
 -- the first rows have been put
 abbrev pub invariant-loop-row : goal.invariant-loop-row

@@ -10,7 +10,7 @@ use Rattle.rules.specs.Judging.{is_completed}
 use Rattle.rules.specs.Reporting.{refused_line, steps_line, rule_lines, report}
 use Rattle.access.proofs.Kept.{accepted-of, few_of, accepted-moved}
 use Rattle.access.proofs.Using.{refused-file}
-use Rattle.reporter.proofs.report.Goals as goal
+use Rattle.texts.proofs.report.Goals as goal
 
 pub returns-in-Err : goal.returns-in-Err
 unfolding report on_file

@@ -1,5 +1,4 @@
 -- Putting one text behind another, and the digits of a number.
--- Assumes nothing.
 use Rattle.std.specs.Prelude.{if◌then◌else◌}
 use Prim.Native.Nat.{ℕ, zero, suc, ◌+◌, ◌-◌, ◌*◌, ◌/◌, ◌%◌, ◌^◌, ◌≤◌, ◌<◌}
 use mathlib.Core.Path.{◌≡◌, refl, sym, ap, ap₂, subst, ◌∙◌}
@@ -19,15 +18,17 @@ use Rattle.access.specs.Trees.{TreeRead}
 use Rattle.access.specs.Places.{Laid}
 use Rattle.access.proofs.Kept.{laid-of, read-of}
 use Rattle.access.proofs.Using.{counts, tree-bounds}
-use Rattle.reporter.specs.Texts.{Filled}
+use Rattle.texts.specs.Texts.{Filled}
 use borrow.Rule.Slice.PartMut.{put_mid, post_of}
 
 -- the first rows and one more
-pub rows_more : (rows : List ℕ) (i : ℕ) → i < length rows → joined spaced (take i rows) ++ spaced (get_or rows i 0) ≡ joined spaced (take (suc i) rows)
+pub rows_more : (rows : List ℕ) (i : ℕ) → i < length rows
+    → joined spaced (take i rows) ++ spaced (get_or rows i 0) ≡ joined spaced (take (suc i) rows)
 unfolding joined
 rows_more [] i h = absurd (omega arith)
 rows_more (r ∷ rows) zero h = sym (append-nil (spaced r))
-rows_more (r ∷ rows) (suc i) h = append_assoc (spaced r) (joined spaced (take i rows)) (spaced (get_or rows i 0)) ∙ ap (λ (t : List ℕ). spaced r ++ t) (rows_more rows i (omega arith))
+rows_more (r ∷ rows) (suc i) h =
+    append_assoc (spaced r) (joined spaced (take i rows)) (spaced (get_or rows i 0)) ∙ ap (λ (t : List ℕ). spaced r ++ t) (rows_more rows i (omega arith))
 
 -- one line more
 pub each_more : (f : ℕ → List ℕ) (i k : ℕ) → each f i k ++ f (i + k) ≡ each f i (suc k)
@@ -35,7 +36,8 @@ unfolding each
 each_more f i zero = let z : i + 0 ≡ i = omega arith in ap f z ∙ sym (append-nil (f i))
 each_more f i (suc k) =
     let z : i + suc k ≡ suc i + k = omega arith in
-    append_assoc (f i) (each f (suc i) k) (f (i + suc k)) ∙ ap (λ (l : List ℕ). f i ++ l) (ap (λ (n : ℕ). each f (suc i) k ++ f n) z ∙ each_more f (suc i) k)
+    append_assoc (f i) (each f (suc i) k) (f (i + suc k))
+    ∙ ap (λ (l : List ℕ). f i ++ l) (ap (λ (n : ℕ). each f (suc i) k ++ f n) z ∙ each_more f (suc i) k)
 
 -- ---- the digits of a number
 

@@ -12,11 +12,11 @@ ghost use Rattle.access.specs.Trees.{AcceptedFile};
 
 use crate::lines::{put_refusal, put_rule, put_steps};
 use crate::page::Page;
+use machine::outcomes::is_completed;
 use reader::accept;
 use reader::accepted::Accepted;
 use rules::Judged;
 use runner::accepted::start_accepted;
-use searcher::search::is_completed;
 use searcher::verdicts::verdict;
 
 // What the report program prints of any bytes.

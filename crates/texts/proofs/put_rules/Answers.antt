@@ -10,8 +10,8 @@ use Rattle.rules.specs.Judging.{is_completed}
 use Rattle.rules.specs.Reporting.{rule_line, rule_lines}
 use Rattle.access.proofs.Kept.{laid-of}
 use Rattle.access.proofs.Using.{counts, tree_of}
-use Rattle.reporter.proofs.Texts.{each_more, line, few-rules}
-use Rattle.reporter.proofs.put_rules.Goals as goal
+use Rattle.texts.proofs.Texts.{each_more, line, few-rules}
+use Rattle.texts.proofs.put_rules.Goals as goal
 
 pub returns-then-not-is_completed : goal.returns-then-not-is_completed
 unfolding rule_lines

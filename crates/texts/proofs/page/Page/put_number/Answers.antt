@@ -5,9 +5,9 @@ use mathlib.Core.List.{List, ◌++◌}
 use Prim.Native.Nat.{ℕ, ◌%◌, ◌+◌, ◌-◌}
 use lib.ListN.{length, take, drop, set, length-append}
 use Rattle.rules.specs.Reporting.{decimal}
-use Rattle.reporter.proofs.Texts.{left-all, left-more, left_one, left-none, decimal-short}
-use Rattle.reporter.proofs.page.Page.put_number.Goals as goal
-use Rattle.reporter.proofs.page.Page.put_number.Goals.{Then-m-eq0}
+use Rattle.texts.proofs.Texts.{left-all, left-more, left_one, left-none, decimal-short}
+use Rattle.texts.proofs.page.Page.put_number.Goals as goal
+use Rattle.texts.proofs.page.Page.put_number.Goals.{Then-m-eq0}
 
 pub loop-i-init : goal.loop-i-init
 loop-i-init c = (refl, λ z. refl, left-all c.args.n (omega arith))
@@ -20,7 +20,8 @@ loop-i-preserved c =
       left-more c.args.n l.i l.m (48 + l.m % 10) c.loop-i-test.true l.auto.i (omega (arith, c.if-m-eq0.false)) refl l.invariant.2,
     )
 
-shown : (c : Then-m-eq0) → take (10 - (c.loop-i.i - 1)) (drop (c.loop-i.i - 1) (set c.loop-i.digits (c.loop-i.i - 1) (48 + c.loop-i.m % 10))) ≡ decimal c.args.n
+shown : (c : Then-m-eq0)
+    → take (10 - (c.loop-i.i - 1)) (drop (c.loop-i.i - 1) (set c.loop-i.digits (c.loop-i.i - 1) (48 + c.loop-i.m % 10))) ≡ decimal c.args.n
 shown c =
     let l = c.loop-i in
     left_one c.args.n l.i l.m (48 + l.m % 10) c.loop-i-test.true l.auto.i (omega (arith, c.if-m-eq0.true)) refl l.invariant.2

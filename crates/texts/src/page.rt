@@ -4,17 +4,20 @@ ghost use Rattle.rules.specs.Reporting.{decimal, spaced};
 
 use std::marker::Model;
 
-// A text of at most 1,024 bytes, and zeros behind it. A fixed buffer with a length, as the product uses no heap. No one generic type
+// The line of the steps takes at most 17 bytes, and each of at most eight rules at most 122.
+const ROOM: usize = 1024;
+
+// A text of at most so many bytes, and zeros behind it. A fixed buffer with a length, as the product uses no heap. No one generic type
 // with walker's `Entries`: a page takes whole texts and promises the zeros, entries are 32-bit places and promise nothing behind them.
 #[derive(Drop)]
 pub struct Page {
-    bytes: [u8; 1024],
+    bytes: [u8; ROOM],
     length: usize,
 }
 
 impl Model for Page {
     ghost use Rattle.std.specs.Prelude.{ℕ, List, take};
-    ghost use Rattle.reporter.specs.Texts.{Filled};
+    ghost use Rattle.texts.specs.Texts.{Filled};
 
     ghost Value = { List ℕ };
 
@@ -28,7 +31,7 @@ impl Page {
         ensures { result ≡ [] }
     {
         Page {
-            bytes: [0; 1024],
+            bytes: [0; ROOM],
             length: 0,
         }
     }

@@ -1,5 +1,4 @@
 -- What a verdict answers, by its tests; what its start leads to; and words that were written.
--- Assumes nothing.
 use Prim.Native.Nat.{ℕ, zero, suc, ◌≤◌}
 use mathlib.Core.Path.{◌≡◌, refl}
 use mathlib.Core.Bool.{true, false}
