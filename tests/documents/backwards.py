@@ -3,7 +3,7 @@
 import re
 from collections.abc import Iterator
 
-from documents import POINT, Check, coded
+from documents import GLOSSARY, NUMBERED, POINT, Check, coded
 from project import Project
 from words import OTHER
 
@@ -51,10 +51,19 @@ def restated(exports: dict[str, str], called: dict[str, str]) -> Iterator[Check]
         yield Check("crates/*_c/src/lib.rt", name, "exported with the clauses of the function that it calls", found)
 
 
-def numbered(decisions: str) -> Iterator[Check]:
-    """The points of DECISIONS.md are numbered one after the other."""
-    for place, number in enumerate(POINT.findall(decisions), 1):
-        yield Check("docs/DECISIONS.md", f"point {number}", f"point {place}, as its place is", number == str(place))
+def numbered(document: str, text: str) -> Iterator[Check]:
+    """Points are numbered one after the other, and there are some."""
+    numbers = POINT.findall(text)
+    yield Check(document, "1", "the number of a point", "1" in numbers)
+    for place, number in enumerate(numbers, 1):
+        yield Check(document, f"point {number}", f"point {place}, as its place is", number == str(place))
+
+
+def told_apart(project: Project, glossary: str) -> Iterator[Check]:
+    """A name that definitions declare twice stands in the glossary."""
+    cited = set(coded(glossary))
+    for name in project.doubles():
+        yield Check("crates/*/specs", name, f"a name that is told apart in {GLOSSARY}", name in cited)
 
 
 def used(document: str, text: str) -> Iterator[Check]:
@@ -68,7 +77,9 @@ def backwards(project: Project) -> Iterator[Check]:
     yield from proved(project, project.statements())
     yield from promised(project, project.text("docs/PROMISES.md"))
     yield from traced(project, project.text("docs/TRACE.md"))
-    yield from numbered(project.text("docs/DECISIONS.md"))
+    yield from told_apart(project, project.text(GLOSSARY))
+    for document in NUMBERED:
+        yield from numbered(document, project.text(document))
     for crate in project.exporting():
         below = crate.removesuffix("_c")
         exports = project.functions(f"crates/{crate}/src/lib.rt")

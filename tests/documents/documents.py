@@ -16,10 +16,20 @@ PATH = re.compile(r"[\w.+-]+(?:/[\w.+*-]+)+/?")
 HOLDER = re.compile(r"(?:^|/)([A-Z]{2,})(?=$|[/.])")
 HEADING = re.compile(r"\|(?:-+\||.*\| definition \|)")
 POINT = re.compile(r"^(\d+)\. ", re.MULTILINE)
-POINTED = re.compile(r"(?:\bpoints? |`DECISIONS\.md`, )(\d+)(?: and (\d+))?")
+POINTED = re.compile(r"(?:`(?:docs/)?(\w+\.md)`, )?\bpoints? (\d+(?:, \d+)*(?: and \d+)?)")
+MEANING = re.compile(r"\| `")
+PLACED = re.compile(r"`([A-Z]\w*\.\w+)`(?: \(`crates/(\w+)/specs/\w+\.antt`\))?")
+CARRIED = re.compile(r"`([^`]+)`: (found|`[^`]+`(?: `[^`]+`)*)")
 STANDING = re.compile(r"^Where the proofs stand:(.*?)\n\n", re.MULTILINE | re.DOTALL)
+# The documents whose points are numbered, and cited by their number.
+NUMBERED = ("docs/DECISIONS.md", "docs/ARCHITECTURE.md")
+GLOSSARY = "docs/GLOSSARY.md"
 # What a test may be in TRACE.md beside the folders of tests/.
 TESTS = {"edit", "edits", "the stored output"}
+EVERY_ROW = re.compile(r"Tests of every row[^:]*: (.+)\.$", re.MULTILINE)
+# What a row of TRACE.md may have, so that it can be read: characters in a cell, and definitions.
+WIDEST = 160
+MOST = 3
 
 
 class Check(NamedTuple):
@@ -105,22 +115,30 @@ def defined(project: Project, cell: str) -> Iterator[tuple[str, str, bool]]:
         yield name, "a definition or type of the rules", found
 
 
-def contracted(project: Project, cell: str) -> Iterator[tuple[str, str, bool]]:
-    for name in coded(cell):
-        yield name, "a function with a contract", names.contract(project, name)
+def carried(project: Project, cell: str) -> Iterator[tuple[str, str, bool]]:
+    """A contract, and after the colon where its proof is, or that Rattle finds it, or a file and its theorems about the definition."""
+    found = CARRIED.fullmatch(cell)
+    if found is None:
+        yield cell, "a contract, and after a colon its proof", False
+        return
+    function, proof = found.groups()
+    if not names.contract(project, function):
+        yield function, "a function with a contract", False
+    elif proof == "found":
+        yield function, "a function of whose proof nothing is written", names.unwritten(project, function)
+    else:
+        path, *theorems = coded(proof)
+        yield from proved(project, function, path, theorems)
 
 
-def proved(project: Project, cell: str) -> Iterator[tuple[str, str, bool]]:
-    """Paths below crates/, and after a file its theorems; and functions whose proofs Rattle finds."""
-    file = ""
-    for name in coded(cell):
-        if "::" in name:
-            yield name, "a function with a contract and no file of proofs", names.unwritten(project, name)
-        elif "/" in name:
-            file = f"crates/{name}"
-            yield name, "a file of proofs, or a folder with a proof", names.proof(project, file)
-        else:
-            yield f"{file} {name}", "a theorem of that file", names.theorem(project, name, file)
+def proved(project: Project, function: str, path: str, theorems: list[str]) -> Iterator[tuple[str, str, bool]]:
+    file = f"crates/{path}"
+    if not path.endswith(".antt"):
+        yield path, f"a folder with the proof of {function}", not theorems and names.proof_of(project, function, file)
+        return
+    yield path, "a file of proofs, with a theorem", names.proof(project, file) and theorems != []
+    for name in theorems:
+        yield f"{file} {name}", "a theorem of that file", names.theorem(project, name, file)
 
 
 def tested(project: Project, cell: str) -> Iterator[tuple[str, str, bool]]:
@@ -145,10 +163,14 @@ def tested(project: Project, cell: str) -> Iterator[tuple[str, str, bool]]:
 def traced(project: Project, document: str, row: str) -> Iterator[Check]:
     """A row of TRACE.md: the sentence, and in each further column names of one kind."""
     sentence, *cells = [cell.strip() for cell in row.strip("|").split("|")]
-    if len(cells) != 4:
-        yield Check(document, row, "a row of five columns", False)
+    if len(cells) != 3:
+        yield Check(document, row, "a row of four columns", False)
+        return
+    for cell in (sentence, *cells):
+        yield Check(document, cell, f"a cell of at most {WIDEST} characters", len(cell) <= WIDEST)
+    yield Check(document, cells[0], f"a cell of at most {MOST} definitions", len(coded(cells[0])) <= MOST)
     yield from strict(project, document, sentence)
-    for column, cell in zip((defined, contracted, proved, tested), cells):
+    for column, cell in zip((defined, carried, tested), cells):
         yield from (Check(document, *found) for found in column(project, cell) if found[0] not in OTHER[document])
 
 
@@ -159,6 +181,25 @@ def trace(project: Project, document: str, text: str) -> Iterator[Check]:
     for line in lines:
         if line.startswith("|") and not HEADING.match(line):
             yield from traced(project, document, line)
+    for cell in EVERY_ROW.findall(text):
+        yield from (Check(document, *found) for found in tested(project, cell))
+
+
+def glossary(project: Project, document: str, text: str) -> Iterator[Check]:
+    """In GLOSSARY.md definitions are those of the rules, or of the file that is named after them. The table of names that mean two
+    things has a name, the file that declares it, and what it says there."""
+    for name, crate in PLACED.findall(" ".join(text.split())):
+        if name not in OTHER[document] and not names.SUFFIX.fullmatch(name):
+            placed = crate or "rules"
+            yield Check(document, name, f"a definition of crates/{placed}", names.definition(project, name, [placed]))
+    lines = text.splitlines()
+    rows = [line for line in lines if MEANING.match(line)]
+    yield from strict(project, document, "\n".join(line for line in lines if line not in rows))
+    for row in rows:
+        name, file, said = [cell.strip() for cell in row.strip("|").split("|")]
+        yield from strict(project, document, said)
+        for path in coded(file):
+            yield Check(document, f"{path} {' '.join(coded(name))}", "a name of that file", names.occurs(project, coded(name), path))
 
 
 def loose(project: Project, document: str, text: str) -> Iterator[Check]:
@@ -204,16 +245,17 @@ def looked_for(project: Project, word: str, folder: str) -> tuple[str, bool] | N
 
 
 def points(project: Project, document: str, text: str) -> Iterator[Check]:
-    """The points of DECISIONS.md that a document refers to by number are there."""
-    there = set(POINT.findall(project.text("docs/DECISIONS.md")))
-    pairs: list[tuple[str, str]] = POINTED.findall(text)
-    for pair in pairs:
-        for number in filter(None, pair):
-            yield Check(document, f"point {number}", "a point of docs/DECISIONS.md", number in there)
+    """The points that a document refers to by number are there: those of the document that stands before them, or else its own."""
+    for named, numbers in POINTED.findall(" ".join(text.split())):
+        cited = f"docs/{named}" if named else document
+        there = POINT.findall(project.text(cited)) if cited in NUMBERED else []
+        for number in re.findall(r"\d+", numbers):
+            yield Check(document, f"point {number}", f"a point of {cited}", number in there)
 
 
 def checks(project: Project, document: str, text: str) -> Iterator[Check]:
     """All names of one document."""
-    by_name = {"docs/TRACE.md": trace, "docs/PROMISES.md": promises, "docs/DECISIONS.md": strict}
-    yield from by_name.get(document, loose)(project, document, text)
+    by_name = {"docs/TRACE.md": trace, "docs/PROMISES.md": promises, GLOSSARY: glossary}
+    by_default = strict if document in OTHER else loose
+    yield from by_name.get(document, by_default)(project, document, text)
     yield from points(project, document, text)

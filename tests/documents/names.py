@@ -68,16 +68,24 @@ def proof(project: Project, path: str) -> bool:
     return a_file or any(WRITTEN.fullmatch(p) for p in project.under(path, ".antt"))
 
 
-def proof_folder(project: Project, name: str) -> str:
-    """The folder for the proof of crate::module::function, which a cycle of calls shares."""
+def written(project: Project, name: str) -> list[str]:
+    """What is written of the proof of crate::module::function: in the folder of that name, below its modules, or below the type of a
+    method; a cycle of calls shares one."""
     crate, *modules, last = name.split("::")
     cycles = {function: f"+{cycle}" for source in sources(name) for function, cycle in project.cycles(source).items()}
-    return "/".join(["crates", crate, "proofs", *modules, cycles.get(last, last)])
+    below = "/".join([*modules, ""]) + r"|\w+/[A-Z]\w*/"
+    folder = re.compile(rf"crates/{crate}/proofs/(?:{below}){re.escape(cycles.get(last, last))}/\w+\.antt")
+    return [p for p in project.under(f"crates/{crate}/proofs", ".antt") if folder.fullmatch(p) and WRITTEN.fullmatch(p)]
+
+
+def proof_of(project: Project, name: str, folder: str) -> bool:
+    """A folder in which something is written of the proof of crate::module::function."""
+    return any(p.startswith(f"{folder}/") for p in written(project, name))
 
 
 def unwritten(project: Project, name: str) -> bool:
     """A function with a contract whose proof Rattle finds: nothing of it is written."""
-    return contract(project, name) and not proof(project, proof_folder(project, name))
+    return contract(project, name) and not written(project, name)
 
 
 def path(project: Project, name: str, folder: str = "") -> bool:
@@ -115,3 +123,8 @@ def lower(project: Project, name: str) -> bool:
 
 def in_sources(project: Project, fragment: str) -> bool:
     return any(fragment in project.text(p) for p in project.of_crates("src", ".rt"))
+
+
+def occurs(project: Project, words: list[str], file: str) -> bool:
+    """The words occur in a file, which is there."""
+    return set(words) <= set(re.findall(r"[\w-]+", project.text(file)))

@@ -2,6 +2,7 @@
 
 import os
 import re
+from collections import Counter
 from collections.abc import Iterator
 from functools import cache
 from pathlib import Path
@@ -14,7 +15,7 @@ RECORD = re.compile(r"\s*pub\s+record\b")
 CLOSED = re.compile(r"^abbrev pub (\w+) : Type 0$", re.MULTILINE)
 PROVED = re.compile(r"^\s*pub ([\w-]+) : (\w+)$", re.MULTILINE)
 FUNCTION = re.compile(r'\s*(?:pub\s+)?(?:extern "C"\s+)?fn\s+(\w+)')
-CYCLE = re.compile(r"#\[cycle\((\w+)\)\]\s*(?:pub\s+)?fn\s+(\w+)")
+CYCLE = re.compile(r"#\[cycle\((\w+)\)\]\s*(?:#\[.*\]\s*)*(?:pub\s+)?fn\s+(\w+)")
 TYPE = re.compile(r"^\s*(?:pub\s+)?(?:struct|enum)\s+(\w+)", re.MULTILINE)
 TEST = re.compile(r"#\[test\]\s*fn\s+(\w+)")
 
@@ -120,3 +121,10 @@ class Project:
     def edits(self) -> list[str]:
         """The must-fail edits, as crate/name."""
         return [f"{p.split('/')[1]}/{Path(p).stem}" for p in self.of_crates("must-fail", ".edit")]
+
+    @cache
+    def doubles(self) -> list[str]:
+        """The names that two files of definitions, or one and a source, declare."""
+        declared = [name for p in self.of_crates("specs", ".antt") for name in self.declared(p)]
+        counts = Counter(declared + [name for crate in self.crates for name in self.types(crate)])
+        return sorted(name for name, count in counts.items() if count > 1 and re.fullmatch(r"\w+", name))
