@@ -40,12 +40,12 @@ pub fn read(file: &[u8]) -> Counted
 }
 
 // No `From<Fault>`: a conversion can have no `requires`, and that a place fits 32 bits is known of what `check_file` answers only.
-fn refused(number: u8, place: usize) -> Refusal
-    requires { place < 2 ^ 32 }
+fn refused(number: usize, place: usize) -> Refusal
+    requires { (number < 256) × (place < 2 ^ 32) }
     ensures { result ≡ refusal_at number place }
 {
     Refusal {
-        number,
+        number: number as u8,
         place: place as u32,
     }
 }

@@ -9,6 +9,7 @@ pub mod StepCounts
 pub mod StatementLaws
 pub mod StatementKinds
 pub mod BlockLaws
+pub mod Anywhere
 pub mod Accepts
 pub mod Simples
 pub mod Goods

@@ -215,14 +215,23 @@ pub record Nested {A : Type 0} (n : ℕ) (r : (levels : ℕ) → Reader A) (body
   pub none : r 0 ≡ child (λ _. refuse n)
   pub some : (levels : ℕ) → r (suc levels) ≡ child (body levels)
 
+-- where no whole record comes, and where one comes and no level is left for it
+module _ {A : Type 0} {n : ℕ} {r : (levels : ℕ) → Reader A} {body : (levels kind : ℕ) → Reader A} (h : Nested n r body) (start at : ℕ) (s : List ℕ) where
+  pub bytes-short : (levels : ℕ) → whole s ≡ false → r levels start at s ≡ refused 2 at
+  bytes-short zero w = rw h.none (child-short _ _ _ _ w)
+  bytes-short (suc levels) w = rw h.some (child-short _ _ _ _ w)
+
+  pub bytes-deep : (levels : ℕ) → levels ≡ 0 → whole s ≡ true → r levels start at s ≡ refused n at
+  unfolding refuse
+  bytes-deep levels e w = rw (e, h.none) (child-refuses _ _ _ _ _ _ w refl)
+
+-- of a part
 module _ {A : Type 0} (count : A → ℕ) {n : ℕ} {r : (levels : ℕ) → Reader A} {body : (levels kind : ℕ) → Reader A} (h : Nested n r body) (p : Part) where
   pub nested-short : (levels : ℕ) → whole p.bytes.now ≡ false → outcome count (of_part (r levels) p) ≡ refused_at 2 p.at
-  nested-short zero w = rw h.none (ap (outcome count) (child-short _ _ _ _ w))
-  nested-short (suc levels) w = rw h.some (ap (outcome count) (child-short _ _ _ _ w))
+  nested-short levels w = ap (outcome count) (bytes-short h p.start p.at p.bytes.now levels w)
 
   pub nested-deep : (levels : ℕ) → levels ≡ 0 → whole p.bytes.now ≡ true → outcome count (of_part (r levels) p) ≡ refused_at n p.at
-  unfolding refuse
-  nested-deep levels e w = rw (e, h.none) (ap (outcome count) (child-refuses _ _ _ _ _ _ w refl))
+  nested-deep levels e w = ap (outcome count) (bytes-deep h p.start p.at p.bytes.now levels e w)
 
   pub nested-ended : (levels : ℕ) → (levels ≡ 0 → ⊥) → ((l : ℕ) → Inner p.at (body l)) → (q : Record) → Opens p q
       → outcome count (of_part (r levels) p) ≡ ended q.end (outcome count (of_part (body (levels - 1) q.kind) q.body))

@@ -1,13 +1,13 @@
 -- Laws of the reading of statements: how far it goes, and what the check makes of a record by its length, level and kind.
 use Prim.Native.Nat.{ℕ, ◌+◌, ◌-◌, ◌≤◌}
 use mathlib.Core.Path.{◌≡◌, refl, ◌∙◌}
-use mathlib.Core.Bool.{false}
+use mathlib.Core.Bool.{true, false}
 use mathlib.Core.List.{List}
 use native.Mathlib.Omega.{arith}
 use borrow.Author.Tests.{ne_eqb}
 use Rattle.std.specs.Prelude.{Err}
 use Rattle.rules.specs.Syntax.{Stmt, Stmts}
-use Rattle.rules.specs.Reading.{refuse, only, expression, set_body, statement_body, loop_set, statement}
+use Rattle.rules.specs.Reading.{refused, whole, refuse, only, expression, set_body, statement_body, loop_set, statement}
 use Rattle.grammar.proofs.Keeping.{keeps-as}
 use Rattle.grammar.proofs.Statements.{Statement, step, row, branch, branches, loop, counted, Statements, final, next}
 use Rattle.grammar.proofs.Statements.{loop-set-keeps, statement-keeps, loop-set-inner, statement-inner}
@@ -16,7 +16,7 @@ use Rattle.records.specs.declared.part.Part.{Part}
 use Rattle.records.specs.declared.part.Record.{Record}
 use Rattle.records.specs.Checking.{Opens, Unopened, of_part, outcome, refused_at, no_steps, ended}
 use Rattle.records.specs.Counting.{step_count, block_count}
-use Rattle.records.proofs.Readers.{Steady, Nested, nested-unopened, nested-ended}
+use Rattle.records.proofs.Readers.{Steady, Nested, bytes-short, bytes-deep, nested-unopened, nested-ended}
 use Rattle.records.proofs.Inversion.{Ends, ends-stored}
 use Rattle.records.proofs.StepCounts.{count-simple, count-last, count-more, count-if, count-else, count-while, count-for}
 
@@ -62,6 +62,20 @@ module _ (vars : ℕ) where
   pub statement-nested : Nested 5 (statement vars) (λ l. statement_body vars (expression vars false l) (loop_set vars l) (statement vars l))
   unfolding statement
   statement-nested = record { none = refl; some = λ l. refl }
+
+  -- of any bytes: where no whole record comes, and where no level is left for it
+  module _ (start at : ℕ) (bs : List ℕ) where
+    pub loop-set-short : (levels : ℕ) → whole bs ≡ false → loop_set vars levels start at bs ≡ refused 2 at
+    loop-set-short = bytes-short loop-set-nested start at bs
+
+    pub loop-set-deep : (levels : ℕ) → levels ≡ 0 → whole bs ≡ true → loop_set vars levels start at bs ≡ refused 5 at
+    loop-set-deep = bytes-deep loop-set-nested start at bs
+
+    pub statement-short : (levels : ℕ) → whole bs ≡ false → statement vars levels start at bs ≡ refused 2 at
+    statement-short = bytes-short statement-nested start at bs
+
+    pub statement-deep : (levels : ℕ) → levels ≡ 0 → whole bs ≡ true → statement vars levels start at bs ≡ refused 5 at
+    statement-deep = bytes-deep statement-nested start at bs
 
   -- where it is not opened
   pub loop-set-unopened : (levels : ℕ) (p : Part) {e : Fault} → Unopened p levels e → Err e ≡ outcome no_steps (of_part (loop_set vars levels) p)

@@ -18,7 +18,7 @@ use Rattle.rules.specs.Reading.{read_tree}
 use Rattle.records.specs.Checking.{outcome}
 use Rattle.records.proofs.Readers.{came, gone}
 use Rattle.files.specs.Trees.{tree_steps}
-use Rattle.grammar.proofs.Accepted.{place-small}
+use Rattle.grammar.proofs.Accepted.{place-small, number-small}
 use Rattle.access.specs.Trees.{TreeRead, HasSteps}
 use Rattle.access.proofs.Kept.{read-moved}
 use Rattle.reader.proofs.Repeats.{repeat-small, repeat-same}
@@ -59,7 +59,9 @@ none_of (Some x) h = absurd (h x refl)
 
 pub map_err-requires : goal.map_err-requires
 map_err-requires c = λ e h.
-    let z : e.place < 2 ^ 32 = omega (arith, place-small _ (gone tree_steps (read_tree c.args.file.now) (sym c.check_file.ensures ∙ h))) in
+    let i = gone tree_steps (read_tree c.args.file.now) (sym c.check_file.ensures ∙ h) in
+    let n : e.number < 256 = omega (arith, number-small _ i) in
+    let z : e.place < 2 ^ 32 = omega (arith, place-small _ i) in
     grind serving
 
 pub returns-in_err-steps : goal.returns-in_err-steps
@@ -82,7 +84,7 @@ repeat c =
     repeat-same _ (some c.in-Some.place) (sym c.in-Some.is ∙ c.first_repeat.ensures (read-moved v.new-parsed.ensures (first v)))
 
 pub refused-requires : goal.refused-requires
-refused-requires c = omega (arith, repeat-small (first (goal.at.refused-requires c).After-new-parsed) _ (repeat c))
+refused-requires c = (omega arith, omega (arith, repeat-small (first (goal.at.refused-requires c).After-new-parsed) _ (repeat c)))
 
 pub returns-in-Some : goal.returns-in-Some
 returns-in-Some c =
