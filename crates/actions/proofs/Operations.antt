@@ -2,7 +2,7 @@
 use Rattle.std.proofs.Common.{◌≡◌, ℕ, ◌+◌, ◌≤◌, List, length, take, drop, refl}
 use Rattle.std.specs.Prelude.{Some, None}
 use Rattle.rules.specs.Basics.{number, part}
-use Rattle.rules.specs.Values.{View, evaluate, apply, negated, both, on_value}
+use Rattle.rules.specs.Values.{Value, View, evaluate, apply, negated, both, on_value}
 use Rattle.records.specs.Acceptance.{Accepted}
 use Rattle.records.proofs.Accepts as laws
 use Rattle.records.proofs.Accepts.{Binary, Negation}
@@ -69,10 +69,6 @@ module _ (w : View) {s : List ℕ} {n : ℕ} (long : n ≡ size s) (is : kind s 
   operand : (a : Accepted s) → Negation n s a.tree
   operand a = laws.not-tree (long_is s long) a (kind_is s refl is)
 
-  pub not_failed : ((e : Accepted (part 4 n s)) → None ≡ evaluate w e.tree) → (a : Accepted s) → None ≡ evaluate w a.tree
-  unfolding evaluate on_value
-  not_failed h a = let p = operand a in rw (p.is, ← h p.child)
-
-  pub not_applied : {x : ℕ} → ((e : Accepted (part 4 n s)) → Some x ≡ evaluate w e.tree) → (a : Accepted s) → negated x ≡ evaluate w a.tree
-  unfolding evaluate on_value
+  pub not_applied : {v : Value} → ((e : Accepted (part 4 n s)) → v ≡ evaluate w e.tree) → (a : Accepted s) → on_value negated v ≡ evaluate w a.tree
+  unfolding evaluate
   not_applied h a = let p = operand a in rw (p.is, ← h p.child)

@@ -41,7 +41,7 @@ pub fn evaluate(s: &[u8], view: &View) -> Value
             let y = operand(&s[k..n], view)?;
             apply(u16_at(s, 4), x, y)
         }
-        NOT => negation(operand(&s[4..n], view)?),
+        NOT => negation(operand(&s[4..n], view)),
         _ => leaf(s, view),
     }
 }

@@ -30,6 +30,11 @@ ending (going a m) = Ok tt
 ending (returned m) = Ok tt
 ending (stopped n m) = Err (refusal n)
 
+-- a run that came to this, on its last machine; of a refusal the number counts, as those that a run meets carry no place
+abbrev pub came_to : Result (Unit {0}) Refusal → Machine → Run (Unit {0})
+came_to (Ok a) m = going a m
+came_to (Err r) m = stopped r.number m
+
 -- what an assignment may name: a variable or a local
 abbrev pub Target : ℕ → Type 0
 Target t = (t < 16) ⊎ ((256 ≤ t) × (t < 264))

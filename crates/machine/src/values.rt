@@ -1,6 +1,6 @@
 // What operators make of values.
 ghost use Rattle.std.specs.Prelude.{◌≡◌};
-ghost use Rattle.rules.specs.Values.{truth as truth_of, is_true, apply as applied, negated};
+ghost use Rattle.rules.specs.Values.{truth as truth_of, is_true, apply as applied, negated, on_value};
 ghost use Rattle.machine.specs.Operators.{number_of, Decodes};
 
 use rules::Value;
@@ -92,9 +92,11 @@ pub fn apply(operator: usize, x: u32, y: u32) -> Value
     operation(Operator::try_from(operator).ok()?, x, y)
 }
 
-#[tactic(auto, unfolding(rules::specs::Values::negated))]
-pub fn negation(x: u32) -> Value
-    ensures { result ≡ negated x }
+// None is handed on as none.
+#[tactic(auto, unfolding(rules::specs::Values::negated, rules::specs::Values::on_value))]
+#[inline(always)]
+pub fn negation(v: Value) -> Value
+    ensures { result ≡ on_value negated v }
 {
-    Some(truth(x == 0))
+    Some(truth(v? == 0))
 }
