@@ -2,6 +2,7 @@
 // For our own crates only: a caller has to see that the record is accepted and that the words have room. That is a clause and no
 // type: it is of a record, of the next node and of the words at once, and each call has others. So is a form's kind: a type for
 // each would be made and taken apart once. A record and its offset stay two for the like: a struct would be made anew at each part.
+// What expands a kind's parts is inlined, so that a level of nesting is one frame.
 ghost use Rattle.std.specs.Prelude.{◌≡◌, ◌+◌, ◌^◌, ◌<◌, ◌≤◌, length};
 ghost use Rattle.rules.specs.Expanding.{joints};
 ghost use Rattle.rules.specs.Reading.{kind_of};
@@ -40,6 +41,7 @@ pub fn expand_statement(s: &[u8], at: usize, ends: Ends, words: &mut [u32], next
 }
 
 // An if or a while: the part that it carries out goes on to `back`.
+#[inline(always)]
 #[cycle(expand)]
 fn expand_part(s: &[u8], at: usize, ends: Ends, back: u32, words: &mut [u32], next: Next) -> Next
     requires { GoesBack back ends s.now × Expandable at next s.now words.old }
@@ -53,6 +55,7 @@ fn expand_part(s: &[u8], at: usize, ends: Ends, back: u32, words: &mut [u32], ne
 }
 
 // An if-else: both its parts go on to its end.
+#[inline(always)]
 #[cycle(expand)]
 #[tactic(auto, using(crate::proofs::Bounds::else_bounds))]
 fn expand_else(s: &[u8], at: usize, ends: Ends, words: &mut [u32], next: Next) -> Next
@@ -70,6 +73,7 @@ fn expand_else(s: &[u8], at: usize, ends: Ends, words: &mut [u32], next: Next) -
 }
 
 // A for: the new nodes stand before its condition, its body and its closing set.
+#[inline(always)]
 #[cycle(expand)]
 #[tactic(auto, using(crate::proofs::Bounds::for_bounds))]
 fn expand_for(s: &[u8], at: usize, ends: Ends, words: &mut [u32], next: Next) -> Next
@@ -89,6 +93,7 @@ fn expand_for(s: &[u8], at: usize, ends: Ends, words: &mut [u32], next: Next) ->
 }
 
 // A block's statements, which are all of s.
+#[inline(always)]
 #[cycle(expand)]
 #[tactic(auto, using(crate::proofs::Blocks::made_block))]
 fn expand_block(s: &[u8], at: usize, ends: Ends, words: &mut [u32], next: Next) -> Next

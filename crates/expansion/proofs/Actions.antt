@@ -20,8 +20,8 @@ use Rattle.emitter.specs.declared.Next.{Next}
 use Rattle.emitter.specs.Writing.{Emitted, Expandable, Expands}
 use Rattle.emitter.proofs.Counts.{made-few}
 use Rattle.emitter.proofs.Words.{as-steps, then-expanded}
-use Rattle.expansion.specs.Writing.{action_steps, action_nodes, ActionsWrote}
-use Rattle.expansion.proofs.Files.{Writable, has_room}
+use Rattle.expansion.specs.Writing.{Writable, action_steps, action_nodes, ActionsWrote}
+use Rattle.expansion.proofs.Files.{has_room}
 
 -- ---- an action at its offset
 

@@ -26,8 +26,8 @@ use Rattle.emitter.specs.Transitions.{GoodTransition, transition_steps, Transiti
 use Rattle.emitter.proofs.Words.{over_first, wrote_none, wrote-length, wrote_then}
 use Rattle.emitter.proofs.Counts.{made-few}
 use Rattle.emitter.proofs.TransitionLaws.{transitions-more, transition-length, as-transition-steps}
-use Rattle.expansion.specs.Writing.{action_steps, action_nodes, ActionsWrote}
-use Rattle.expansion.proofs.Files.{Writable, has_room}
+use Rattle.expansion.specs.Writing.{Writable, action_steps, action_nodes, ActionsWrote}
+use Rattle.expansion.proofs.Files.{has_room}
 use Rattle.expansion.proofs.Actions.{actions-length, expansion-parts}
 
 -- ---- the i-th transition, at its offset

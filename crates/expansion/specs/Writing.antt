@@ -1,9 +1,15 @@
--- What is written of an agreement's two actions.
-use Rattle.std.specs.Prelude.{ℕ, ◌+◌, List, ◌++◌}
+-- Accepted files whose expansion is written, and what is written of an agreement's two actions.
+use Rattle.std.specs.Prelude.{ℕ, ◌+◌, ◌*◌, ◌≤◌, List, ◌++◌, length}
 use Rattle.rules.specs.Syntax.{Agreement}
-use Rattle.rules.specs.Expanding.{Step, made, expand, fallback_end, fallback_entry, initial_entry, first_new}
+use Rattle.rules.specs.Expanding.{Step, made, expand, expansion, fallback_end, fallback_entry, initial_entry, first_new}
+use Rattle.access.specs.Trees.{AcceptedFile}
 use Rattle.emitter.specs.declared.Next.{Next}
 use Rattle.emitter.specs.Writing.{Wrote}
+
+-- the file is accepted, and the words have room for its steps
+pub record Writable (file words : List ℕ) : Type 0 where
+  pub accepted : AcceptedFile file
+  pub room : 5 * length (expansion accepted.tree) ≤ length words
 
 -- "initial action (d and r the start state), fallback (d and r node S)": what `expansion` begins with
 unfoldable pub action_steps : Agreement → List Step

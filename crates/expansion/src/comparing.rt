@@ -13,6 +13,6 @@ pub fn is_expansion(accepted: &Accepted, words: &[u32]) -> bool
     ensures { (a : AcceptedFile accepted.now.parsed.file.now) → result ≡ begins_with words.now (table (expansion a.tree)) }
 {
     let mut own = [0u32; 5120];
-    write_expansion(accepted, &mut own);
+    write_expansion(&accepted.parsed, &mut own);
     words.starts_with(&own[..5 * accepted.steps])
 }

@@ -19,6 +19,6 @@ pub fn expand(file: &[u8], words: &mut [u32]) -> Counted
 {
     let accepted = accept(file)?;
     check_room(&accepted, words)?;
-    write_expansion(&accepted, words);
+    write_expansion(&accepted.parsed, words);
     Ok(accepted.steps as u32)
 }

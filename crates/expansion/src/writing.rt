@@ -1,23 +1,22 @@
 // The expansion of an accepted file, written into words.
-// For our own crates only: a caller has to see that the words have room, which is a clause: it is of a file and of words together.
-ghost use Rattle.std.specs.Prelude.{◌≡◌, ◌*◌, ◌≤◌, length};
+// For our own crates only: a caller has to see that the file is accepted and that the words have room, which is a clause: it is of a
+// file and of words together.
+ghost use Rattle.std.specs.Prelude.{◌≡◌};
 ghost use Rattle.rules.specs.Accepting.{written};
 ghost use Rattle.access.specs.Trees.{AcceptedFile};
-ghost use Rattle.expansion.specs.Writing.{ActionsWrote};
+ghost use Rattle.expansion.specs.Writing.{Writable, ActionsWrote};
 
 use access::parsed::Parsed;
 use emitter::statements::expand_statement;
 use emitter::transitions::expand_transition;
 use emitter::{Ends, Next};
-use reader::accepted::Accepted;
 use records::bytes::u16_at;
 
 // The initial action and the fallback.
-fn write_actions(accepted: &Accepted, words: &mut [u32]) -> Next
-    requires { 5 * accepted.now.steps ≤ length words.old }
-    ensures { (a : AcceptedFile accepted.now.parsed.file.now) → ActionsWrote a.tree words.old words.new result }
+fn write_actions(parsed: &Parsed, words: &mut [u32]) -> Next
+    requires { Writable parsed.now.file.now words.old }
+    ensures { (a : AcceptedFile parsed.now.file.now) → ActionsWrote a.tree words.old words.new result }
 {
-    let parsed = &accepted.parsed;
     let f = parsed.fields();
     let states = u32::from(f.states);
     let start = u32::from(f.start);
@@ -42,12 +41,12 @@ fn write_actions(accepted: &Accepted, words: &mut [u32]) -> Next
 }
 
 // All of the steps: those of the two actions, then those of the transitions in file order.
-pub fn write_expansion(accepted: &Accepted, words: &mut [u32])
-    requires { 5 * accepted.now.steps ≤ length words.old }
-    ensures { (a : AcceptedFile accepted.now.parsed.file.now) → words.new ≡ written a.tree words.old }
+pub fn write_expansion(parsed: &Parsed, words: &mut [u32])
+    requires { Writable parsed.now.file.now words.old }
+    ensures { (a : AcceptedFile parsed.now.file.now) → words.new ≡ written a.tree words.old }
 {
-    let Parsed { file, layout, .. } = accepted.parsed;
-    let mut next = write_actions(accepted, words);
+    let Parsed { file, layout, .. } = *parsed;
+    let mut next = write_actions(parsed, words);
     // Where the next record begins is read from the one before. An iterator of records would keep the same offset.
     let mut at = layout.transitions.at;
     for _ in 0..layout.transitions.count {

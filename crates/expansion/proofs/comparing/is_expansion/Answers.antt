@@ -7,11 +7,13 @@ use lib.Seq.{length-take-le}
 use Rattle.rules.specs.Stepping.{begins_with}
 use Rattle.access.proofs.Kept.{accepted-of, steps-are, few_of}
 use Rattle.expansion.proofs.Beginning.{begins-is, written-begins}
+use Rattle.expansion.proofs.Files.{writable}
 use Rattle.expansion.proofs.comparing.is_expansion.Goals.{After-write_expansion}
 use Rattle.expansion.proofs.comparing.is_expansion.Goals as goal
 
 pub write_expansion-requires : goal.write_expansion-requires
-write_expansion-requires c = omega (arith, few_of c.args.accepted.now.accepted, length-replicate {A = ℕ} 5120 0)
+write_expansion-requires c =
+    writable (accepted-of c.args.accepted.now.accepted) (omega (arith, few_of c.args.accepted.now.accepted, length-replicate {A = ℕ} 5120 0))
 
 -- there is room in the own words
 fits : (c : After-write_expansion) → 5 * c.args.accepted.now.steps ≤ length c.write_expansion.new.words
