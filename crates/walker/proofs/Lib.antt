@@ -1,5 +1,6 @@
 -- What the proofs of several functions, and of other crates, use.
 pub mod Tables
+pub mod Zeros
 pub mod Shape
 pub mod Places
 pub mod Bounds

@@ -6,9 +6,7 @@ use mathlib.Core.List.{List}
 use mathlib.Core.Logic.{∥∥₁_elim}
 use mathlib.Core.Option.{some}
 use Rattle.std.proofs.Math.Nat.{ℕ_set}
-use Rattle.std.proofs.Props.{props}
 use lib.ListN.{get_or}
-use Rattle.rules.specs.declared.Fields.{Fields}
 use Rattle.rules.specs.declared.Machine.{Machine}
 use Rattle.rules.specs.Syntax.{Agreement}
 use Rattle.rules.specs.Expanding.{expansion, table}
@@ -26,13 +24,13 @@ use Rattle.walker.proofs.Ends.{walk_ends, walk_refused, walk-stops, walk-goes}
 use Rattle.walker.proofs.Meeting.{same-tree, none_first, leaves}
 
 -- what steps keep, where a proof wants the tree itself: it is the file's
-pub walkable : {file words nodes : List ℕ} {fields : Fields} → ∥ Walkable file words nodes fields ∥₁ → Walkable file words nodes fields
-walkable {file} {words} {nodes} {fields} h = go (file_of file) refl
+pub walkable : {file words nodes : List ℕ} → ∥ Walkable file words nodes ∥₁ → Walkable file words nodes
+walkable {file} {words} {nodes} h = go (file_of file) refl
   where
-    go : (f : File) → file_of file ≡ f → Walkable file words nodes fields
+    go : (f : File) → file_of file ≡ f → Walkable file words nodes
     go (bad r) e = absurd (∥∥₁_elim h (λ x y. absurd x) (λ w. let k = w.expanded.is in cc))
     go (good t) e =
-        let same : (w : Walkable file words nodes fields) → w.expanded.tree ≡ t = λ w. (let k = w.expanded.is in cc) in
+        let same : (w : Walkable file words nodes) → w.expanded.tree ≡ t = λ w. (let k = w.expanded.is in cc) in
         record {
           expanded = record {
             tree = t;
@@ -44,13 +42,9 @@ walkable {file} {words} {nodes} {fields} h = go (file_of file) refl
             full = ∥∥₁_elim h (ℕ_set _ _) (λ w. w.indexed.full);
             has = λ n. ∥∥₁_elim h (ℕ_set _ _) (λ w. w.indexed.has n ∙ ap (λ (t : Agreement). place_from 0 (expansion t) n) (same w));
           };
-          counts = ∥∥₁_elim h (hlevel props) (λ w. w.counts ∙ ap (λ (t : Agreement). t.fields) (same w));
         }
 
-module _ {file words nodes : List ℕ} {fields : Fields} (w : Walkable file words nodes fields) where
-  pub fields-of : (a : Expanded file words) → fields ≡ a.tree.fields
-  fields-of a = w.counts ∙ ap (λ (t : Agreement). t.fields) (same-tree w.expanded a)
-
+module _ {file words nodes : List ℕ} (w : Walkable file words nodes) where
   -- the index is right for every tree of the file
   placed : (a : Expanded file words) (n k : ℕ) → k ≡ get_or nodes n 0 → place_from 0 (expansion a.tree) n ≡ k
   placed a n k e = sym (e ∙ w.indexed.has n ∙ ap (λ (t : Agreement). place_from 0 (expansion t) n) (same-tree w.expanded a))

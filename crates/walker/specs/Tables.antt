@@ -50,6 +50,12 @@ guard_places i (s ∷ l) = if eqb s.kind 1 then i ∷ guard_places (suc i) l els
 abbrev pub EntriesIn : (file words entries : List ℕ) → Type 0
 EntriesIn file words entries = (a : Expanded file words) → entries ≡ guard_places 0 (expansion a.tree)
 
+-- the words begin with an expansion, and these are the places of its kind 1 steps
+pub record Listed (words entries : List ℕ) : Type 0 where
+  pub file : List ℕ
+  pub expanded : Expanded file words
+  pub entered : entries ≡ guard_places 0 (expansion expanded.tree)
+
 -- a kind 1 step at its place
 pub record GuardAt (steps : List Step) (place : ℕ) (s : Step) : Type 0 where
   pub here : get_elem? steps place ≡ some s

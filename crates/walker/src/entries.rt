@@ -6,22 +6,28 @@ use std::marker::Model;
 // Each is the place of a step, of which an accepted file has at most so many.
 const MOST: usize = 1024;
 
-// The places come first in the array: fixed memory, as the product uses no heap. `Page` of `texts` is no instance of one generic type with
-// it: a page takes whole texts and promises zeros behind them.
-#[derive(Drop)]
+// The places in order, then zeros: fixed memory, as the product uses no heap. The zeros make the array one of its places, as a copy needs
+// it. `Page` of `texts` is no instance of one generic type with it: a page takes whole texts, and these are pushed one by one.
+#[derive(Clone, Copy)]
 pub struct Entries {
     places: [u32; MOST],
     count: usize,
 }
 
 impl Model for Entries {
-    ghost use Rattle.std.specs.Prelude.{List, ℕ, ◌≤◌, take};
+    ghost use Rattle.std.specs.Prelude.{List, ℕ, take, length};
+    ghost use Rattle.rules.specs.Basics.{padded};
+    ghost use Rattle.walker.specs.Entries.{ZerosBehind};
 
     ghost Value = { List ℕ };
 
     ghost view = { λ e. take e.count e.places };
 
-    ghost invariant = { λ e. e.count ≤ 1024 };
+    ghost invariant = { λ e. ZerosBehind e.count e.places };
+
+    ghost inverse = { λ l. record { places = padded 1024 l; count = length l } };
+
+    ghost inverse_ok = { λ e h i. record { places = h.zeros i; count = h.counts i } };
 }
 
 impl Entries {
@@ -42,6 +48,12 @@ impl Entries {
     {
         self.places[self.count] = place;
         self.count += 1;
+    }
+
+    pub fn count(&self) -> usize
+        ensures { result ≡ length self.now }
+    {
+        self.places().len()
     }
 
     pub fn places(&self) -> &[u32]

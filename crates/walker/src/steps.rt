@@ -2,14 +2,12 @@
 ghost use Rattle.walker.specs.Walkable.{Walkable};
 
 use crate::index::NODES;
-use rules::Fields;
 
-// The file, lent words that begin with its expansion, the index of its nodes, and its fields.
+// The file, lent words that begin with its expansion, and the index of its nodes.
 #[derive(Clone, Copy)]
 pub struct Steps<'a> {
     pub file: &'a [u8],
     pub words: &'a [u32],
     pub nodes: &'a [u32; NODES],
-    pub fields: Fields,
-    pub ghost walkable: { ∥ Walkable file.now words.now nodes.now fields ∥₁ },
+    pub ghost walkable: { ∥ Walkable file.now words.now nodes.now ∥₁ },
 }
