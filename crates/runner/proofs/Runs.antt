@@ -25,6 +25,7 @@ use Rattle.machine.specs.Runs.{Funded}
 use Rattle.machine.specs.Calls.{Passed}
 use Rattle.machine.proofs.States.{opening-total}
 use Rattle.machine.proofs.Calls.{elsewhere-refused, call-runs, Enters, enters, passed-enters, enters-funded}
+use Rattle.access.specs.declared.parsed.Parsed.{Parsed}
 use Rattle.access.specs.Trees.{AcceptedFile}
 use Rattle.access.proofs.Kept.{accepted-of, accepted-moved, laid-of}
 use Rattle.access.proofs.Using.{ActionAt, FoundAt, initial-at, fallback-at, tree_of}
@@ -45,11 +46,11 @@ abbrev pub file_moved : (x : Accepted) {file : List ℕ} → x.parsed.file.now �
 file_moved x e = accepted-moved (sym e) (file_is x)
 
 -- its initial action and its fallback action, by every tree of the file
-pub initial_of : (x : Accepted) (a : AcceptedFile x.parsed.file.now) → ActionAt x.parsed.file.now x.parsed.layout.initial a.tree.initial
-initial_of x a = initial-at (laid-of x.parsed.laid) (tree_of a)
+pub initial_of : (x : Parsed) (a : AcceptedFile x.file.now) → ActionAt x.file.now x.layout.initial a.tree.initial
+initial_of x a = initial-at (laid-of x.laid) (tree_of a)
 
-pub fallback_of : (x : Accepted) (a : AcceptedFile x.parsed.file.now) → ActionAt x.parsed.file.now x.parsed.layout.fallback a.tree.fallback
-fallback_of x a = fallback-at (laid-of x.parsed.laid) (tree_of a)
+pub fallback_of : (x : Parsed) (a : AcceptedFile x.file.now) → ActionAt x.file.now x.layout.fallback a.tree.fallback
+fallback_of x a = fallback-at (laid-of x.laid) (tree_of a)
 
 -- an action at its offset, in the bytes that the code passes on
 pub standing : {file : List ℕ} {at : ℕ} {tree : Stmt} → ActionAt file at tree → (g : Good (from at file)) × (g.tree ≡ tree)

@@ -9,7 +9,8 @@ use expansion::lent::check_words;
 use machine::outcomes::{check_sender, refused_call, refused_start};
 use reader::accept;
 use rules::{Call, Outcome, Refusal, State};
-use walker::index::{index_entries, index_nodes};
+use walker::entries::Entries;
+use walker::index::{NODES, write_entries, write_nodes};
 use walker::steps::Steps;
 
 pub fn start_expanded(file: &[u8], words: &[u32]) -> Outcome
@@ -27,13 +28,14 @@ fn start_lent(file: &[u8], words: &[u32]) -> Result<Outcome, Refusal>
 {
     let accepted = accept(file)?;
     check_words(&accepted, words)?;
-    let nodes = index_nodes(words, accepted.steps);
-    Ok(start_prepared(&Steps {
+    let mut nodes = [0; NODES];
+    write_nodes(words, accepted.steps, &mut nodes);
+    let steps = Steps {
         file,
         words,
         nodes: &nodes,
-        fields: accepted.parsed.fields(),
-    }))
+    };
+    Ok(start_prepared(&steps, &accepted.parsed.fields()))
 }
 
 pub fn call_expanded(file: &[u8], words: &[u32], s: State, k: Call) -> Outcome
@@ -55,16 +57,18 @@ fn call_lent(file: &[u8], words: &[u32], s: &State, k: &Call) -> Result<Outcome,
     let fields = accepted.parsed.fields();
     check_sender(&fields, k)?;
     check_words(&accepted, words)?;
-    let nodes = index_nodes(words, accepted.steps);
-    let entries = index_entries(words, accepted.steps);
+    let mut nodes = [0; NODES];
+    write_nodes(words, accepted.steps, &mut nodes);
+    let mut entries = Entries::new();
+    write_entries(words, accepted.steps, &mut entries);
     let steps = Steps {
         file,
         words,
         nodes: &nodes,
-        fields,
     };
     let p = Prepared {
         steps,
+        fields,
         entries: &entries,
     };
     Ok(call_prepared(&p, s, k))

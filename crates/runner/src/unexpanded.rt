@@ -12,7 +12,7 @@ pub fn start(file: &[u8]) -> Outcome
     ensures { result ≡ start_of file.now }
 {
     match accept(file) {
-        Ok(accepted) => start_accepted(&accepted),
+        Ok(accepted) => start_accepted(&accepted.parsed),
         Err(r) => refused_start(r, 0),
     }
 }
@@ -21,7 +21,7 @@ pub fn call(file: &[u8], s: State, k: Call) -> Outcome
     ensures { result ≡ call_of file.now s k }
 {
     match accept(file) {
-        Ok(accepted) => call_accepted(&accepted, &s, &k),
+        Ok(accepted) => call_accepted(&accepted.parsed, &s, &k),
         Err(r) => refused_call(r, 0, s),
     }
 }

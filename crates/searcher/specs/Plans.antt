@@ -26,7 +26,7 @@ pub record Planned (file words : List ℕ) (fields : Fields) (rule : RuleAt) (ro
   pub are_rows : (i : ℕ) → i < length rows → get_or rows i no_call ≡ get_or accepted.tree.rows i no_call
 
 abbrev pub PlannedBy : Search → Type 0
-PlannedBy s = Planned s.prepared.now.steps.file.now s.prepared.now.steps.words.now s.prepared.now.steps.fields s.rule s.rows.now
+PlannedBy s = Planned s.prepared.now.steps.file.now s.prepared.now.steps.words.now s.prepared.now.fields s.rule s.rows.now
 
 module _ {file words : List ℕ} {fields : Fields} {rule : RuleAt} {rows : List Call} (g : Planned file words fields rule rows) where
   -- whether the rule is broken by the end of the rows at these positions

@@ -1,6 +1,7 @@
 -- A rule as the code holds it, and how it stands after some calls.
 use Rattle.std.specs.Prelude.{ℕ, ◌≤◌, ◌≡◌, Bool, ◌&&◌, ◌||◌, List, map, eqb, length, drop}
 use Rattle.std.proofs.Math.Bool
+use Rattle.rules.specs.declared.State.{State}
 use Rattle.rules.specs.Basics.{any}
 use Rattle.rules.specs.Syntax.{Expr, Rule, always, not_after, only_after}
 use Rattle.rules.specs.Judging.{Event, violated, later, unpreceded}
@@ -19,6 +20,10 @@ abbrev pub HeldAs : (file : List ℕ) → Rule → RuleAt → Type 0
 HeldAs file (always e) r = (at : ℕ) × (r ≡ Always at) × ExpressionAt file at e
 HeldAs file (not_after p q) r = r ≡ NotAfter p q
 HeldAs file (only_after p q) r = r ≡ OnlyAfter p q
+
+-- the record with other balances, which no rule reads
+abbrev pub with_balances : State → (balances : List ℕ) → State
+with_balances s bs = record { state = s.state; variables = s.variables; balances = bs; own = s.own }
 
 abbrev pub names : List Event → List ℕ
 names es = map (λ (v : Event). v.name) es

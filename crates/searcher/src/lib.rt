@@ -3,6 +3,7 @@
 
 mod cache;
 pub mod interface;
+pub mod judging;
 pub mod plan;
 pub mod rows;
 pub mod search;

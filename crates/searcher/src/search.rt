@@ -81,8 +81,8 @@ fn with_row(judged: Judged, at: u8, row: u8) -> Judged
 impl Search<'_> {
     // Goes on by the call of one row more. A refused call leaves how the rule stands.
     fn call(&self, position: &mut Position, row: usize)
-        requires { PlannedBy self.now × (row < length self.now.rows.now) × Fits self.now.prepared.now.steps.fields position.old.state }
-        ensures fits { Fits self.now.prepared.now.steps.fields position.new.state }
+        requires { PlannedBy self.now × (row < length self.now.rows.now) × Fits self.now.prepared.now.fields position.old.state }
+        ensures fits { Fits self.now.prepared.now.fields position.new.state }
         ensures l_after { (g : PlannedBy self.now) (l : List ℕ) → breaks_in g position.new l ≡ breaks_in g position.old (row ∷ l) }
     {
         let prepared = self.prepared;
@@ -99,7 +99,7 @@ impl Search<'_> {
     // list breaks the rule. No struct of the arguments: key, `at` and `tried` are others at each call, and it would be made anew.
     #[cycle(extend)]
     fn extend(&self, key: &Key, cache: &mut [Pair], at: u8, tried: u32) -> Result<u32, Judged>
-        requires { PlannedBy self.now × Fits self.now.prepared.now.steps.fields key.now.position.state × (at + key.now.left ≤ 8)
+        requires { PlannedBy self.now × Fits self.now.prepared.now.fields key.now.position.state × (at + key.now.left ≤ 8)
             × Sound self.now cache.old }
         ensures sound { Sound self.now cache.new }
         ensures value { (g : PlannedBy self.now) →
@@ -126,7 +126,7 @@ impl Search<'_> {
     // The same where rows are left, row by row; the cache is asked only from the next row on.
     #[cycle(extend)]
     fn extend_each(&self, key: &Key, cache: &mut [Pair], at: u8, tried: u32) -> Result<u32, Judged>
-        requires { PlannedBy self.now × Fits self.now.prepared.now.steps.fields key.now.position.state × (0 < key.now.left)
+        requires { PlannedBy self.now × Fits self.now.prepared.now.fields key.now.position.state × (0 < key.now.left)
             × (at + key.now.left ≤ 8) × Sound self.now cache.old }
         ensures sound { Sound self.now cache.new }
         ensures value { (g : PlannedBy self.now) →
@@ -149,7 +149,7 @@ impl Search<'_> {
         tried: u32,
         row: usize,
     ) -> Result<u32, Judged>
-        requires { PlannedBy self.now × Fits self.now.prepared.now.steps.fields key.now.position.state × (row < length self.now.rows.now)
+        requires { PlannedBy self.now × Fits self.now.prepared.now.fields key.now.position.state × (row < length self.now.rows.now)
             × (0 < key.now.left) × (at + key.now.left ≤ 8) × Sound self.now cache.old }
         ensures sound { Sound self.now cache.new }
         ensures value { (g : PlannedBy self.now) →
@@ -168,7 +168,7 @@ impl Search<'_> {
     // Tries the lists by length, up to the depth, from the position that the start led to. Its loop is `extend_each`'s, over lengths
     // in place of rows, and with a key made at each.
     fn by_length(&self, fresh: &Position, depth: u8, cache: &mut [Pair]) -> Result<u32, Judged>
-        requires { PlannedBy self.now × Fits self.now.prepared.now.steps.fields fresh.now.state × (depth ≤ 8) × Sound self.now cache.old }
+        requires { PlannedBy self.now × Fits self.now.prepared.now.fields fresh.now.state × (depth ≤ 8) × Sound self.now cache.old }
         ensures { (g : PlannedBy self.now) →
             result ≡ going (ruled_on self.now.bound (breaks_in g fresh.now) (lists_to (length self.now.rows.now) depth)) }
     {
@@ -187,7 +187,7 @@ impl Search<'_> {
     // cleared.
     #[inline(never)]
     fn with_cache(&self, fresh: &Position, depth: u8) -> Result<u32, Judged>
-        requires { PlannedBy self.now × Fits self.now.prepared.now.steps.fields fresh.now.state × (depth ≤ 8) }
+        requires { PlannedBy self.now × Fits self.now.prepared.now.fields fresh.now.state × (depth ≤ 8) }
         ensures { (g : PlannedBy self.now) →
             result ≡ going (ruled_on self.now.bound (breaks_in g fresh.now) (lists_to (length self.now.rows.now) depth)) }
     {
@@ -197,7 +197,7 @@ impl Search<'_> {
 
     // The same; where nothing would be kept the cache has no pairs.
     pub fn search(&self, fresh: &Position, depth: u8) -> Judged
-        requires { PlannedBy self.now × Fits self.now.prepared.now.steps.fields fresh.now.state × (depth ≤ 8) }
+        requires { PlannedBy self.now × Fits self.now.prepared.now.fields fresh.now.state × (depth ≤ 8) }
         ensures { (g : PlannedBy self.now) →
             result ≡ judged_of (ruled_on self.now.bound (breaks_in g fresh.now) (lists_to (length self.now.rows.now) depth)) }
     {

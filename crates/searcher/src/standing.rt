@@ -3,7 +3,7 @@ ghost use Rattle.std.specs.Prelude.{◌≡◌, ◌||◌, List, ◌∷◌, ℕ, e
 ghost use Rattle.rules.specs.declared.State.{State};
 ghost use Rattle.rules.specs.Syntax.{Expr, Rule, always, not_after, only_after};
 ghost use Rattle.rules.specs.Judging.{Event, violated, breaks_by};
-ghost use Rattle.searcher.specs.Standing.{ExpressionAt, HeldAs, breaks_after};
+ghost use Rattle.searcher.specs.Standing.{ExpressionAt, HeldAs, with_balances, breaks_after};
 
 use crate::Status;
 use access::RuleAt;
@@ -11,10 +11,10 @@ use actions::View;
 use actions::expressions::evaluate;
 use rules::State;
 
-// Whether the expression at an offset is false or fails in a state.
+// Whether the expression at an offset is false or fails in a state, whatever its balances.
 fn is_violated(file: &[u8], at: usize, state: &State) -> bool
     requires { (e : Expr) × ExpressionAt file.now at e }
-    ensures { (e : Expr) → ExpressionAt file.now at e → result ≡ violated e state.now }
+    ensures { (e : Expr) → ExpressionAt file.now at e → (bs : List ℕ) → result ≡ violated e (with_balances state.now bs) }
 {
     let view = View {
         variables: &state.variables,
@@ -40,11 +40,11 @@ pub fn at_first(file: &[u8], rule: RuleAt, state: &State) -> Status
     }
 }
 
-// How the rule stands after one completed call more, of this name, that led to this state.
+// How the rule stands after one completed call more, of this name, that led to this state, whatever its balances.
 pub fn after(file: &[u8], rule: RuleAt, status: Status, name: u8, state: &State) -> Status
     requires { (x : Rule) × HeldAs file.now x rule }
-    ensures { (x : Rule) → HeldAs file.now x rule → (es : List Event) →
-        breaks_after x result es ≡ breaks_after x status (record { name = name; state = state.now } ∷ es) }
+    ensures { (x : Rule) → HeldAs file.now x rule → (bs : List ℕ) (es : List Event) →
+        breaks_after x result es ≡ breaks_after x status (record { name = name; state = with_balances state.now bs } ∷ es) }
 {
     match rule {
         RuleAt::Always(at) => after_always(file, at, status, state),
@@ -55,8 +55,8 @@ pub fn after(file: &[u8], rule: RuleAt, status: Status, name: u8, state: &State)
 
 fn after_always(file: &[u8], at: usize, status: Status, state: &State) -> Status
     requires { (e : Expr) × ExpressionAt file.now at e }
-    ensures { (e : Expr) → ExpressionAt file.now at e → (n : ℕ) (es : List Event) →
-        breaks_after (always e) result es ≡ breaks_after (always e) status (record { name = n; state = state.now } ∷ es) }
+    ensures { (e : Expr) → ExpressionAt file.now at e → (n : ℕ) (bs : List ℕ) (es : List Event) →
+        breaks_after (always e) result es ≡ breaks_after (always e) status (record { name = n; state = with_balances state.now bs } ∷ es) }
 {
     if is_violated(file, at, state) {
         return Status {

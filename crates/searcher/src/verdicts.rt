@@ -10,11 +10,8 @@ ghost use Rattle.machine.specs.Calls.{Fits};
 ghost use Rattle.access.specs.Trees.{AcceptedFile};
 ghost use Rattle.walker.specs.Tables.{Expanded};
 
-use crate::Position;
-use crate::plan::Search;
-use crate::rows::rows;
+use crate::judging::judge_accepted;
 use crate::search::unshown;
-use crate::standing::at_first;
 use expansion::lent::check_room;
 use expansion::writing::write_expansion;
 use machine::outcomes::is_completed;
@@ -23,7 +20,8 @@ use reader::accepted::Accepted;
 use rules::{Judged, Refusal, State, Verdict};
 use runner::Prepared;
 use runner::accepted::start_accepted;
-use walker::index::{index_entries, index_nodes};
+use walker::entries::Entries;
+use walker::index::{NODES, write_entries, write_nodes};
 use walker::steps::Steps;
 
 pub fn verdict(file: &[u8], rule: u32, words: &mut [u32]) -> Judged
@@ -45,11 +43,11 @@ fn judge(file: &[u8], i: usize, words: &mut [u32]) -> Result<Judged, Refusal>
         return Err(Refusal::placeless(10));
     }
     check_room(&accepted, words)?;
-    let started = start_accepted(&accepted);
+    let started = start_accepted(&accepted.parsed);
     if !is_completed(started.answer) {
         return Err(Refusal::placeless(27));
     }
-    write_expansion(&accepted, words);
+    write_expansion(&accepted.parsed, words);
     Ok(judge_written(&accepted, words, i, started.state))
 }
 
@@ -62,32 +60,20 @@ fn judge_written(accepted: &Accepted, words: &[u32], i: usize, fresh: State) -> 
         get_elem? a.tree.rules i ≡ some x → fresh ≡ (start_tree a.tree).state → result ≡ judged_of (ruling a.tree x) }
 {
     let parsed = &accepted.parsed;
-    let file = parsed.file;
     let fields = parsed.fields();
-    let nodes = index_nodes(words, accepted.steps);
-    let entries = index_entries(words, accepted.steps);
+    let mut nodes = [0; NODES];
+    write_nodes(words, accepted.steps, &mut nodes);
+    let mut entries = Entries::new();
+    write_entries(words, accepted.steps, &mut entries);
     let steps = Steps {
-        file,
+        file: parsed.file,
         words,
         nodes: &nodes,
-        fields,
     };
     let prepared = Prepared {
         steps,
+        fields,
         entries: &entries,
     };
-    let rule = parsed.rule(i);
-    let all = rows(parsed);
-    let search = Search {
-        prepared: &prepared,
-        rule,
-        rows: &all[..parsed.layout.rows.count],
-        bound: fields.bound,
-    };
-    let status = at_first(file, rule, &fresh);
-    let position = Position {
-        state: fresh,
-        status,
-    };
-    search.search(&position, fields.depth)
+    judge_accepted(parsed, &prepared, i, fresh)
 }

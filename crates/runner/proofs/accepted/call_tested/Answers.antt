@@ -3,16 +3,15 @@ use Rattle.std.specs.Prelude.{Ok}
 use mathlib.Core.Path.{sym, ap, ◌∙◌}
 use native.Mathlib.Omega.{arith}
 use Rattle.std.proofs.lemmas.Result.{err_from_is_err_and}
-use Rattle.rules.specs.Calling.{refused_call}
+use Rattle.rules.specs.Calling.{called, refused_call}
+use Rattle.machine.proofs.Runs.{came}
 use Rattle.machine.proofs.Calls.{first-passed, first-refused}
 use Rattle.access.proofs.Using.{find_at, find-elsewhere, find-unknown, tree-bounds, tree_of}
-use Rattle.runner.proofs.Runs.{file_is, fallback_of, standing, accounts-few, asked, moves, call_enters, entered-funded, tree-call, tree-elsewhere, tree-unknown, tree-found}
+use Rattle.runner.proofs.Runs.{fallback_of, standing, accounts-few, asked, moves, call_enters, entered-funded, tree-call, tree-elsewhere, tree-unknown, tree-found}
 use Rattle.runner.proofs.accepted.call_tested.Goals as goal
 
 pub check_call-requires : goal.check_call-requires
-check_call-requires c =
-    let a = file_is c.args.accepted.now in
-    accounts-few a (c.fields-fields.ensures (tree_of a))
+check_call-requires c = accounts-few c.requires (c.fields-fields.ensures (tree_of c.requires))
 
 pub returns-in_err-check_call : goal.returns-in_err-check_call
 unfolding refused_call
@@ -34,22 +33,22 @@ returns-in_err-found c =
 
 pub entering-requires : goal.entering-requires
 entering-requires c =
-    let a = file_is c.args.accepted.now in
+    let a = c.requires in
     let p = first-passed _ _ _ (sym c.in_ok-check_call.was ∙ c.check_call.ensures) in
     asked (call_enters a (c.fields-fields.ensures (tree_of a)) p (omega arith))
 
 -- the fallback action
 pub slice_bounds-run_statement-start : goal.slice_bounds-run_statement-start
-slice_bounds-run_statement-start c = let x = c.args.accepted.now in omega (arith, (fallback_of x (file_is x)).fits)
+slice_bounds-run_statement-start c = omega (arith, (fallback_of c.args.parsed.now c.requires).fits)
 
 pub slice_bounds-run_statement-count : goal.slice_bounds-run_statement-count
-slice_bounds-run_statement-count c = let x = c.args.accepted.now in omega (arith, (fallback_of x (file_is x)).fits)
+slice_bounds-run_statement-count c = omega (arith, (fallback_of c.args.parsed.now c.requires).fits)
 
 pub run_statement-run-requires : goal.run_statement-run-requires
 run_statement-run-requires c =
-    let a = file_is c.args.accepted.now in
+    let a = c.requires in
     let p = first-passed _ _ _ (sym c.in_ok-check_call.was ∙ c.check_call.ensures) in (
-      (standing (fallback_of c.args.accepted.now a)).0,
+      (standing (fallback_of c.args.parsed.now a)).0,
       entered-funded a (c.fields-fields.ensures (tree_of a)) p (omega arith) c.entering.ensures.0 c.entering.ensures.1,
     )
 
@@ -58,28 +57,28 @@ returns-in-None c = λ a.
     let t = tree_of a in
     let p = first-passed _ _ _ (sym c.in_ok-check_call.was ∙ c.check_call.ensures) in
     let e = find-unknown t _ _ (sym (c.in_ok-found.was ∙ ap Ok c.in-None.is) ∙ c.find_transition.ensures t) in
-    let x = standing (fallback_of c.args.accepted.now a) in
+    let x = standing (fallback_of c.args.parsed.now a) in
     let r = c.run_statement-run.ensures x.0 in
-    c.called.ensures
+    c.called.ensures ∙ ap (called c.args.s.now) (came _ _ _ c.completed.ensures)
     ∙ rw (rw x.1 at r)
     (tree-unknown a.tree (c.fields-fields.ensures t) c.args.s.now c.args.k.now p c.entering.ensures.0 c.entering.ensures.1 e.0 e.1)
 
 -- the transition that was found
 pub overflow_add-at : goal.overflow_add-at
 overflow_add-at c =
-    let t = tree_of (file_is c.args.accepted.now) in
+    let t = tree_of c.requires in
     let x = find_at t _ _ _ (sym (c.in_ok-found.was ∙ ap Ok c.in-Some.is) ∙ c.find_transition.ensures t) in
     omega (arith, x.record-at.fits, (tree-bounds t).size)
 
 pub bounds-parsed-at : goal.bounds-parsed-at
 bounds-parsed-at c =
-    let t = tree_of (file_is c.args.accepted.now) in
+    let t = tree_of c.requires in
     let x = find_at t _ _ _ (sym (c.in_ok-found.was ∙ ap Ok c.in-Some.is) ∙ c.find_transition.ensures t) in
     omega (arith, x.record-at.fits, (tree-bounds t).size)
 
 pub run_transition-run-requires : goal.run_transition-run-requires
 run_transition-run-requires c =
-    let a = file_is c.args.accepted.now in
+    let a = c.requires in
     let t = tree_of a in
     let p = first-passed _ _ _ (sym c.in_ok-check_call.was ∙ c.check_call.ensures) in (
       (moves (find_at t _ _ _ (sym (c.in_ok-found.was ∙ ap Ok c.in-Some.is) ∙ c.find_transition.ensures t))).0,
@@ -93,7 +92,7 @@ returns-in-Some c = λ a.
     let x = find_at t _ _ _ (sym (c.in_ok-found.was ∙ ap Ok c.in-Some.is) ∙ c.find_transition.ensures t) in
     let v = moves x in
     let r = c.run_transition-run.ensures v.0 in
-    c.called-in-Some.ensures
+    c.called-in-Some.ensures ∙ ap (called c.args.s.now) (came _ _ _ c.completed-in-Some.ensures)
     ∙ rw (rw (v.1, v.2) at r)
     (tree-found a.tree (c.fields-fields.ensures t) c.args.s.now c.args.k.now p c.entering.ensures.0 c.entering.ensures.1
     x.transition x.is (x.record-at.to ∙ sym c.from-to.ensures))

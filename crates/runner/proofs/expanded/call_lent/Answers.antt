@@ -1,5 +1,5 @@
 -- `call_lent` meets its contract: the file, the tests 9, 11 and 12, and then the call on the steps.
-use mathlib.Core.Path.{sym, ◌∙◌}
+use mathlib.Core.Path.{refl, sym, ◌∙◌}
 use Rattle.std.proofs.lemmas.Result.{err_from_is_err_and}
 use Rattle.machine.proofs.Calls.{test-passed}
 use Rattle.access.proofs.Kept.{accepted-of, steps-are, accepted-moved}
@@ -29,27 +29,30 @@ returns-in_err-check_words c =
     (lent-words _ _ (file_moved c.in_ok-accepted.accepted c.in_ok-accepted.ensures.0) c.args.s.now c.args.k.now (c.fields-fields.ensures (tree_of a))
     (test-passed 9 (sym c.in_ok-check_sender.was ∙ c.check_sender.ensures)) (sym c.in_err-check_words.was ∙ c.check_words.ensures.is a))
 
-pub index_nodes-nodes-requires : goal.index_nodes-nodes-requires
-index_nodes-nodes-requires c =
+pub write_nodes-requires : goal.write_nodes-requires
+write_nodes-requires c =
     let h = accepted-of c.in_ok-accepted.accepted.accepted in
-    tabled (beginning h.0 (sym c.in_ok-check_words.was ∙ c.check_words.ensures.is h.0)) h.1
+    (tabled (beginning h.0 (sym c.in_ok-check_words.was ∙ c.check_words.ensures.is h.0)) h.1, refl)
 
-pub index_entries-entries-requires : goal.index_entries-entries-requires
-index_entries-entries-requires c =
+pub write_entries-requires : goal.write_entries-requires
+write_entries-requires c =
     let h = accepted-of c.in_ok-accepted.accepted.accepted in
-    tabled (beginning h.0 (sym c.in_ok-check_words.was ∙ c.check_words.ensures.is h.0)) h.1
+    (tabled (beginning h.0 (sym c.in_ok-check_words.was ∙ c.check_words.ensures.is h.0)) h.1, c.new-entries.ensures)
 
 pub invariant_of-steps : goal.invariant_of-steps
 invariant_of-steps c =
     let h = accepted-of c.in_ok-accepted.accepted.accepted in
     let b = file_moved c.in_ok-accepted.accepted c.in_ok-accepted.ensures.0 in
     let e = beginning b (sym c.in_ok-check_words.was ∙ c.check_words.ensures.is h.0) in
-    record { walkable = ∣ record { expanded = e; indexed = c.index_nodes-nodes.ensures _ e h.1; counts = c.fields-fields.ensures (tree_of h.0) } ∣₁ }
+    record { walkable = ∣ record { expanded = e; indexed = c.write_nodes.ensures _ e h.1 } ∣₁ }
 
 pub invariant_of-p : goal.invariant_of-p
 invariant_of-p c =
     let h = accepted-of c.in_ok-accepted.accepted.accepted in
-    record { entered = λ a. c.index_entries-entries.ensures _ a (steps-are h (accepted-moved c.in_ok-accepted.ensures.0 (file-of a))) }
+    record {
+      are_fields = λ a. c.fields-fields.ensures (tree_of (accepted-moved c.in_ok-accepted.ensures.0 (file-of a)));
+      entered = λ a. c.write_entries.ensures _ a (steps-are h (accepted-moved c.in_ok-accepted.ensures.0 (file-of a)));
+    }
 
 pub returns : goal.returns
 returns c =

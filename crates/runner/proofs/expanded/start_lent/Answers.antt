@@ -1,10 +1,10 @@
 -- `start_lent` meets its contract: the file, the tests 11 and 12, and then the start on the steps.
-use mathlib.Core.Path.{sym, ◌∙◌}
+use mathlib.Core.Path.{refl, sym, ◌∙◌}
 use Rattle.std.proofs.lemmas.Result.{err_from_is_err_and}
-use Rattle.access.proofs.Kept.{accepted-of}
+use Rattle.access.proofs.Kept.{accepted-of, accepted-moved}
 use Rattle.access.proofs.Using.{refused-file, tree_of}
 use Rattle.runner.proofs.Runs.{file_is, file_moved}
-use Rattle.runner.proofs.Lent.{beginning, file-start, start-refused, start-lent, tabled}
+use Rattle.runner.proofs.Lent.{file-of, beginning, file-start, start-refused, start-lent, tabled}
 use Rattle.runner.proofs.expanded.start_lent.Goals as goal
 
 pub returns-in_err-accepted : goal.returns-in_err-accepted
@@ -20,17 +20,20 @@ returns-in_err-check_words c =
     (start-refused _ _ (file_moved c.in_ok-accepted.accepted c.in_ok-accepted.ensures.0)
     (sym c.in_err-check_words.was ∙ c.check_words.ensures.is a))
 
-pub index_nodes-nodes-requires : goal.index_nodes-nodes-requires
-index_nodes-nodes-requires c =
+pub write_nodes-requires : goal.write_nodes-requires
+write_nodes-requires c =
     let h = accepted-of c.in_ok-accepted.accepted.accepted in
-    tabled (beginning h.0 (sym c.in_ok-check_words.was ∙ c.check_words.ensures.is h.0)) h.1
+    (tabled (beginning h.0 (sym c.in_ok-check_words.was ∙ c.check_words.ensures.is h.0)) h.1, refl)
 
-pub invariant_of-start_prepared : goal.invariant_of-start_prepared
-invariant_of-start_prepared c =
+pub invariant_of-steps : goal.invariant_of-steps
+invariant_of-steps c =
     let h = accepted-of c.in_ok-accepted.accepted.accepted in
     let b = file_moved c.in_ok-accepted.accepted c.in_ok-accepted.ensures.0 in
     let e = beginning b (sym c.in_ok-check_words.was ∙ c.check_words.ensures.is h.0) in
-    record { walkable = ∣ record { expanded = e; indexed = c.index_nodes-nodes.ensures _ e h.1; counts = c.fields.ensures (tree_of h.0) } ∣₁ }
+    record { walkable = ∣ record { expanded = e; indexed = c.write_nodes.ensures _ e h.1 } ∣₁ }
+
+pub start_prepared-requires : goal.start_prepared-requires
+start_prepared-requires c = λ a. c.fields.ensures (tree_of (accepted-moved c.in_ok-accepted.ensures.0 (file-of a)))
 
 pub returns : goal.returns
 returns c =

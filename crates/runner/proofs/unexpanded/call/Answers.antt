@@ -5,6 +5,9 @@ use Rattle.access.proofs.Using.{refused-file}
 use Rattle.runner.proofs.Runs.{file_is, file_moved}
 use Rattle.runner.proofs.unexpanded.call.Goals as goal
 
+pub call_accepted-requires : goal.call_accepted-requires
+call_accepted-requires c = file_is c.in-Ok.accepted
+
 pub returns-in-Ok : goal.returns-in-Ok
 unfolding call on_file
 returns-in-Ok c = let x = c.in-Ok.accepted in rw (file_moved x c.in-Ok.ensures.0).is (c.call_accepted.ensures (file_is x))

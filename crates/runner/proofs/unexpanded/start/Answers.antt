@@ -5,6 +5,9 @@ use Rattle.access.proofs.Using.{refused-file}
 use Rattle.runner.proofs.Runs.{file_is, file_moved}
 use Rattle.runner.proofs.unexpanded.start.Goals as goal
 
+pub start_accepted-requires : goal.start_accepted-requires
+start_accepted-requires c = file_is c.in-Ok.accepted
+
 pub returns-in-Ok : goal.returns-in-Ok
 unfolding start on_file
 returns-in-Ok c = let x = c.in-Ok.accepted in rw (file_moved x c.in-Ok.ensures.0).is (c.start_accepted.ensures (file_is x))

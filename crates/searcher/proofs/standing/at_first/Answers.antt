@@ -17,7 +17,7 @@ returns-in-Always c = λ rule h es.
     let a = c.args in
     type-one a.file.now a.rule
     (λ rule. breaks_after rule (record { broken = c.is_violated-broken.result; seen = false }) es ≡ breaks_by rule a.state.now es)
-    _ rule h c.in-Always.is (λ e k. begins-always e a.state.now c.is_violated-broken.result (c.is_violated-broken.ensures e k) es)
+    _ rule h c.in-Always.is (λ e k. begins-always e a.state.now c.is_violated-broken.result (c.is_violated-broken.ensures e k a.state.now.balances) es)
 
 pub returns-in_default : goal.returns-in_default
 returns-in_default c = λ rule h es. let a = c.args in begins-other a.file.now a.rule rule h c.in_default.not-Always a.state.now es

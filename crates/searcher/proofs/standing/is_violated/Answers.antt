@@ -2,6 +2,7 @@
 use Rattle.std.proofs.Common.{rules}
 use mathlib.Core.Path.{◌≡◌, ◌∙◌}
 use Rattle.rules.specs.Judging.{not_true}
+use Rattle.searcher.specs.Standing.{with_balances}
 use Rattle.searcher.proofs.Events.{here, violated-by}
 use Rattle.searcher.proofs.standing.is_violated.Goals as goal
 
@@ -12,8 +13,8 @@ evaluate-requires c =
 
 pub returns : goal.returns
 unfolding not_true
-returns c = λ e h.
+returns c = λ e h bs.
     let a = c.args in
-    let s = a.state.now in
+    let s = with_balances a.state.now bs in
     let v : c.is_none_or.result ≡ not_true c.evaluate.result = search rules in
     v ∙ violated-by a.file.now a.at s c.evaluate.result (λ g. c.evaluate.ensures g) e h

@@ -5,9 +5,10 @@ use native.Mathlib.Omega.{arith}
 use Rattle.std.proofs.lemmas.Result.{err_from_is_err_and}
 use Rattle.rules.specs.declared.Outcome.{Outcome}
 use Rattle.rules.specs.Judging.{is_completed}
-use Rattle.access.proofs.Kept.{laid-of}
+use Rattle.access.proofs.Kept.{laid-of, accepted-of}
 use Rattle.access.proofs.Using.{counts, tree_of, refused-file}
 use Rattle.expansion.proofs.ExpandAnswers.{room-refused, room-found}
+use Rattle.expansion.proofs.Files.{writable}
 use Rattle.runner.proofs.Runs.{file_is, file_moved}
 use Rattle.searcher.proofs.VerdictAnswers.{no-file, no-rule, few_words, failed-start, was-judged, start_fits, written-words}
 use Rattle.searcher.proofs.Judges.{rule-here}
@@ -37,6 +38,9 @@ returns-in_err-check_room c =
     let t = room-refused _ (sym c.in_err-check_room.was ∙ c.check_room.ensures.is a) in
     rw (p.1, p.2, t.1) (few_words b c.args.words.now c.args.i x.0 x.1 t.0)
 
+pub start_accepted-started-requires : goal.start_accepted-started-requires
+start_accepted-started-requires c = file_is c.in_ok-accepted.accepted
+
 pub returns-then-not-is_completed : goal.returns-then-not-is_completed
 returns-then-not-is_completed c =
     let a = file_is c.in_ok-accepted.accepted in
@@ -45,6 +49,9 @@ returns-then-not-is_completed c =
     rw c.placeless-then-not-is_completed.ensures
     (failed-start b c.args.words.now c.args.i x.0 x.1 (room-found _ (sym c.in_ok-check_room.was ∙ c.check_room.ensures.is a))
     (completed c.is_completed.ensures (c.start_accepted-started.ensures a) _ c.if-not-is_completed.true))
+
+pub write_expansion-requires : goal.write_expansion-requires
+write_expansion-requires c = writable (accepted-of c.in_ok-accepted.accepted.accepted) c.in_ok-check_room.ensures.room
 
 pub judge_written-requires : goal.judge_written-requires
 judge_written-requires c =

@@ -43,7 +43,7 @@ returns-then-is_completed-clause-l_after c = λ g l.
     let less = c.requires.1 in
     breaks-completed g.accepted.tree g.judged c.args.position.now row _ (led g row less _ _ c.call_fitting-answer.ensures) l
     (sym c.is_completed.ensures ∙ c.if-is_completed.true) c.after-position.result
-    (λ es. let e = c.after-position.ensures g.judged g.holds es in rw (row_is g row less _) at e)
+    (λ es. let e = c.after-position.ensures g.judged g.holds c.call_fitting-answer.new.s.balances es in rw (row_is g row less _) at e)
 
 pub returns-else-is_completed-clause-l_after : goal.returns-else-is_completed-clause-l_after
 returns-else-is_completed-clause-l_after c = λ g l.
