@@ -84,7 +84,10 @@ struct Shown(Outcome);
 impl fmt::Display for Shown {
     fn fmt<W: fmt::Write>(&self, f: &mut fmt::Formatter<W>) -> fmt::Result {
         match self.0.answer {
-            Answer::Completed(None, units) => write!(f, "completed, no value, units {units}")?,
+            Answer::Completed(None, units) => {
+                write!(f, "completed, no value")?;
+                write!(f, ", units {units}")?;
+            }
             Answer::Completed(Some(x), units) => write!(f, "completed, value {x}, units {units}")?,
             Answer::Refused(r, units) => {
                 let number = r.number;
@@ -102,17 +105,14 @@ impl fmt::Display for Shown {
     }
 }
 
-// Standard output as a writer of formats.
+// Standard output as a writer of formats. Each text is a write of its own, and one that fails takes no other with it.
 #[derive(Drop)]
 struct Output;
 
 impl fmt::Write for Output {
     fn write_str(&mut self, text: &str) -> fmt::Result {
-        if io::write_all(1, text.as_bytes()) {
-            Ok(())
-        } else {
-            Err(fmt::Error)
-        }
+        io::write_all(1, text.as_bytes());
+        Ok(())
     }
 }
 
@@ -121,26 +121,29 @@ fn show_all(title: &str, ran: Ran) -> fmt::Result {
     let first = Shown(ran.first);
     let second = Shown(ran.second);
     let mut output = Output;
-    writeln!(output, "{title}")?;
+    write!(output, "{title}")?;
     writeln!(output, "  start: {started}")?;
     writeln!(output, "  first call: {first}")?;
     writeln!(output, "  second call: {second}")
 }
 
 fn show() -> fmt::Result {
-    show_all("call 1 twice", counter(named(1, 0), named(1, 0)))?;
+    show_all("call 1 twice\n", counter(named(1, 0), named(1, 0)))?;
     show_all(
-        "call 9, coins 6 with call 1",
+        "call 9, coins 6 with call 1\n",
         counter(named(9, 0), named(1, 6)),
     )?;
     show_all(
-        "coins 5 with call 1, call 9",
+        "coins 5 with call 1, call 9\n",
         counter(named(1, 5), named(9, 0)),
     )?;
-    show_all("limit 5: call 1, call 9", limited(named(1, 0), named(9, 0)))
+    show_all(
+        "limit 5: call 1, call 9\n",
+        limited(named(1, 0), named(9, 0)),
+    )
 }
 
-// Where standard output takes no more, the rest is not printed.
+// What standard output does not take is passed over, and the rest is still printed.
 fn main() {
     let _ = show();
 }

@@ -116,7 +116,7 @@ drop-zeros (suc n) (suc m) = let z : m - n ≡ suc m - suc n = omega arith in dr
 
 pub filled_none : Filled 0 (zeros 1024)
 unfolding padded
-filled_none = record { fits = omega arith; zeros = refl }
+filled_none = record { fits = omega arith; whole = refl; zeros = refl }
 
 module _ (n : ℕ) (xs text : List ℕ) (f : Filled n xs) (full : length xs ≡ 1024) (room : n + length text ≤ 1024) where
   behind : drop n xs ≡ zeros (1024 - n)
@@ -141,6 +141,7 @@ module _ (n : ℕ) (xs text : List ℕ) (f : Filled n xs) (full : length xs ≡ 
       ap (drop (k - n)) behind ∙ drop-zeros (k - n) (1024 - n) ∙ ap zeros left in
       record {
         fits = room;
+        whole = shown;
         zeros = e ∙ ap₂ (λ (x y : List ℕ). x ++ y) (sym front) zs;
       }
 

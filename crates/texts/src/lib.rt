@@ -21,7 +21,8 @@ use searcher::verdicts::verdict;
 
 // What the report program prints of any bytes.
 pub fn report(file: &[u8]) -> Page
-    ensures { result ≡ report_of file.now }
+    ensures value { result ≡ report_of file.now }
+    ensures length_in_bounds { length result ≤ 1024 }
 {
     let mut page = Page::new();
     match accept(file) {
@@ -37,10 +38,11 @@ pub fn report(file: &[u8]) -> Page
 // A line for each rule, or that the start failed.
 fn put_rules(accepted: &Accepted, page: &mut Page)
     requires { length page.old + 976 ≤ 1024 }
-    ensures { (a : AcceptedFile accepted.now.parsed.file.now) →
+    ensures after { (a : AcceptedFile accepted.now.parsed.file.now) →
         page.new ≡ page.old ++ rule_lines accepted.now.parsed.file.now a.tree (is_completed (start_tree a.tree).answer) }
+    ensures short { length page.new ≤ length page.old + 976 }
 {
-    if !is_completed(start_accepted(accepted).answer) {
+    if !is_completed(start_accepted(&accepted.parsed).answer) {
         page.put(b"start refused 27\n");
         return;
     }

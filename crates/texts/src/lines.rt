@@ -10,7 +10,8 @@ use rules::{Judged, Refusal, Verdict};
 #[tactic(auto, unfolding(rules::specs::Reporting::refused_line))]
 pub fn put_refusal(page: &mut Page, r: Refusal)
     requires { length page.old + 30 ≤ 1024 }
-    ensures { page.new ≡ page.old ++ refused_line r }
+    ensures after { page.new ≡ page.old ++ refused_line r }
+    ensures short { length page.new ≤ length page.old + 30 }
 {
     page.put(b"refused");
     page.put_spaced(u32::from(r.number));

@@ -1,5 +1,6 @@
 // The text of a report, written piece by piece. For our own crates only: a caller has to see that there is room.
 ghost use Rattle.std.specs.Prelude.{◌≡◌, ◌+◌, ◌≤◌, ◌++◌, [], length};
+ghost use Rattle.rules.specs.Basics.{padded};
 ghost use Rattle.rules.specs.Reporting.{decimal, spaced};
 
 use std::marker::Model;
@@ -8,8 +9,8 @@ use std::marker::Model;
 const ROOM: usize = 1024;
 
 // A text of at most so many bytes, and zeros behind it. A fixed buffer with a length, as the product uses no heap. No one generic type
-// with walker's `Entries`: a page takes whole texts and promises the zeros, entries are 32-bit places and promise nothing behind them.
-#[derive(Drop)]
+// with walker's `Entries`: a page takes whole texts and hands out the zeros, entries are 32-bit places that are pushed one by one.
+#[derive(Clone, Copy)]
 pub struct Page {
     bytes: [u8; ROOM],
     length: usize,
@@ -17,13 +18,19 @@ pub struct Page {
 
 impl Model for Page {
     ghost use Rattle.std.specs.Prelude.{ℕ, List, take};
-    ghost use Rattle.texts.specs.Texts.{Filled};
+    ghost use Rattle.std.proofs.Common.{sym};
 
     ghost Value = { List ℕ };
+
+    ghost use Rattle.texts.specs.Texts.{Filled, page};
 
     ghost view = { λ p. take p.length p.bytes };
 
     ghost invariant = { λ p. Filled p.length p.bytes };
+
+    ghost inverse = { page };
+
+    ghost inverse_ok = { λ p f i. record { bytes = sym f.zeros i; length = f.whole i } };
 }
 
 impl Page {
@@ -37,9 +44,24 @@ impl Page {
     }
 
     pub fn text(&self) -> &[u8]
-        ensures { result.now ≡ self.now }
+        ensures whole { result.now ≡ self.now }
+        ensures short { length result.now ≤ 1024 }
     {
         &self.bytes[..self.length]
+    }
+
+    pub fn length(&self) -> usize
+        ensures value { result ≡ length self.now }
+        ensures short { result ≤ 1024 }
+    {
+        self.text().len()
+    }
+
+    // The text and the zeros behind it.
+    pub fn bytes(&self) -> &[u8; 1024]
+        ensures value { result.now ≡ padded 1024 self.now }
+    {
+        &self.bytes
     }
 
     pub fn put(&mut self, text: &[u8])

@@ -10,12 +10,16 @@ use Rattle.rules.specs.Judging.{is_completed}
 use Rattle.rules.specs.Reporting.{rule_line, rule_lines}
 use Rattle.access.proofs.Kept.{laid-of}
 use Rattle.access.proofs.Using.{counts, tree_of}
+use Rattle.runner.proofs.Runs.{file_is}
 use Rattle.texts.proofs.Texts.{each_more, line, few-rules}
 use Rattle.texts.proofs.put_rules.Goals as goal
 
-pub returns-then-not-is_completed : goal.returns-then-not-is_completed
+pub start_accepted-requires : goal.start_accepted-requires
+start_accepted-requires c = file_is c.args.accepted.now
+
+pub returns-then-not-is_completed-clause-after : goal.returns-then-not-is_completed-clause-after
 unfolding rule_lines
-returns-then-not-is_completed c = λ a.
+returns-then-not-is_completed-clause-after c = λ a.
     rw (ap (λ (o : Outcome). is_completed o.answer) (sym (c.start_accepted.ensures a)) ∙ sym c.is_completed.ensures ∙ c.if-not-is_completed.true)
     c.put.ensures
 
@@ -44,11 +48,14 @@ loop-i-preserved c =
     let more = append_assoc before (each f 0 l.i) (f (0 + l.i)) ∙ ap (λ (t : List ℕ). before ++ t) (each_more f 0 l.i ∙ ap (each f 0) y) in
     (c.put_rule.ensures.after ∙ ap₂ (λ (s t : List ℕ). s ++ t) l.invariant.0 here ∙ more, omega (arith, l.invariant.1, c.put_rule.ensures.short))
 
-pub returns : goal.returns
+pub returns-clause-after : goal.returns-clause-after
 unfolding rule_lines
-returns c = λ a.
+returns-clause-after c = λ a.
     let l = c.loop-i in
     let u = tree_of a in
     let n : l.i ≡ length a.tree.rules = omega (arith, (counts (laid-of c.args.accepted.now.parsed.laid) u).2) in
     rw (ap (λ (o : Outcome). is_completed o.answer) (sym (c.start_accepted.ensures a)) ∙ sym c.is_completed.ensures ∙ c.if-not-is_completed.false)
     (l.invariant.0 ∙ ap (λ (k : ℕ). c.args.page.now ++ each (line c.args.accepted.now.parsed.file.now) 0 k) n)
+
+pub returns-clause-short : goal.returns-clause-short
+returns-clause-short c = omega (arith, few-rules c.args.accepted.now.parsed.laid, c.loop-i.invariant.1)

@@ -12,10 +12,10 @@ use Rattle.access.proofs.Kept.{accepted-of, few_of, accepted-moved}
 use Rattle.access.proofs.Using.{refused-file}
 use Rattle.texts.proofs.report.Goals as goal
 
-pub returns-in-Err : goal.returns-in-Err
+pub returns-in-Err-clause-value : goal.returns-in-Err-clause-value
 unfolding report on_file
-returns-in-Err c =
-    rw (refused-file _ _ c.in-Err.ensures) (c.put_refusal.ensures ∙ ap (λ (t : List ℕ). t ++ refused_line c.in-Err.r) c.new-page.ensures)
+returns-in-Err-clause-value c =
+    rw (refused-file _ _ c.in-Err.ensures) (c.put_refusal.ensures.after ∙ ap (λ (t : List ℕ). t ++ refused_line c.in-Err.r) c.new-page.ensures)
 
 pub overflow_cast-accepted : goal.overflow_cast-accepted
 overflow_cast-accepted c = omega (arith, few_of c.in-Ok.accepted.accepted)
@@ -23,11 +23,17 @@ overflow_cast-accepted c = omega (arith, few_of c.in-Ok.accepted.accepted)
 pub put_rules-requires : goal.put_rules-requires
 put_rules-requires c = omega (arith, c.put_steps.ensures.short, ap length c.new-page.ensures)
 
-pub returns-in-Ok : goal.returns-in-Ok
+pub returns-in-Ok-clause-value : goal.returns-in-Ok-clause-value
 unfolding report on_file
-returns-in-Ok c =
+returns-in-Ok-clause-value c =
     let h = accepted-of c.in-Ok.accepted.accepted in
     let a = accepted-moved (sym c.in-Ok.ensures.0) h.0 in
     let lines = λ (file : List ℕ). rule_lines file a.tree (is_completed (start_tree a.tree).answer) in
     let steps = c.put_steps.ensures.after ∙ ap (λ (t : List ℕ). t ++ steps_line c.in-Ok.accepted.steps) c.new-page.ensures ∙ ap steps_line h.1 in
-    rw a.is (c.put_rules.ensures h.0 ∙ ap₂ (λ (t file : List ℕ). t ++ lines file) steps c.in-Ok.ensures.0)
+    rw a.is (c.put_rules.ensures.after h.0 ∙ ap₂ (λ (t file : List ℕ). t ++ lines file) steps c.in-Ok.ensures.0)
+
+pub returns-in-Err-clause-length_in_bounds : goal.returns-in-Err-clause-length_in_bounds
+returns-in-Err-clause-length_in_bounds c = omega (arith, c.put_refusal.ensures.short, ap length c.new-page.ensures)
+
+pub returns-in-Ok-clause-length_in_bounds : goal.returns-in-Ok-clause-length_in_bounds
+returns-in-Ok-clause-length_in_bounds c = omega (arith, c.put_rules.ensures.short, c.put_steps.ensures.short, ap length c.new-page.ensures)
