@@ -15,13 +15,14 @@ use Rattle.rules.specs.Expanding.{expansion}
 use Rattle.rules.specs.Accepting.{File, bad, good, refusal_at, first_repeat, sized, accept, accepted, file_of}
 use Rattle.laws.proofs.Basics.{both-true, if-cases}
 use Rattle.grammar.proofs.Bytes.{part-all}
-use Rattle.grammar.proofs.Keeping.{Keeps, Of, stops, Inner, keeps-if, keeps-refuse, keeps-any, keeps-as, keeps-child, what-read, where-refused, which-refused}
+use Rattle.grammar.proofs.Keeping.{Keeps, Of, stops, Inner, keeps-if, keeps-refuse, keeps-any, keeps-as, keeps-child, what-read, where-refused}
 use Rattle.grammar.proofs.Agreements.{AgreementAt, agreement-keeps}
+use Rattle.grammar.proofs.Small.{few-refused, few-tree}
 
 -- the body of the file's record
 pub file-inner : Inner 0 (only 1 agreement_body)
 unfolding only
-file-inner file kind to = keeps-if (eqb kind 1) (keeps-any (agreement-keeps file (λ k. k) (λ k n. refl) 0 to)) (keeps-refuse 3 (omega arith))
+file-inner file kind to = keeps-if (eqb kind 1) (keeps-any (agreement-keeps file (λ k. k) (λ k n. refl) 0 to)) (keeps-refuse 3)
 
 module _ (file : List ℕ) where
   -- a tree that was read
@@ -50,14 +51,14 @@ module _ (file : List ℕ) where
       let x = both-true (leb 4 (length file) && leb (length file) 32768) (eqb (size_of file) (length file)) t in
       let small = leb-true (length file) 32768 (both-true (leb 4 (length file)) (leb (length file) 32768) x.0).1 in
       let tree = keeps-child (λ _ end a. AgreementAt file (λ k. k) 0 end a) λ kind to.
-      keeps-if (eqb kind 1) (keeps-as (agreement-keeps file (λ k. k) (λ k n. refl) 0 to) λ a m h _. h.1) (keeps-refuse 3 (omega arith)) in
+      keeps-if (eqb kind 1) (keeps-as (agreement-keeps file (λ k. k) (λ k n. refl) 0 to) λ a m h _. h.1) (keeps-refuse 3) in
       let h : Keeps file 0 0 (length file) (child (only 1 agreement_body)) (λ a _. Tree a) =
       keeps-as tree (λ a to h.
       let end : to ≡ length file = omega (arith, h.0.size, eqb-true _ _ x.1) in
       record { small = small; parts = subst (λ (end : ℕ). AgreementAt file (λ k. k) 0 end a) end h.1 }) in
       let read = h.each (omega arith) (omega arith) in
       (length file, small, subst (λ s. Of file 0 0 (length file) (λ a _. Tree a) (child (only 1 agreement_body) 0 0 s)) (part-all 0 file) read))
-      (λ _. (0, omega arith, stops 0 (omega arith) (λ _. omega arith)))
+      (λ _. (0, omega arith, stops 0 (λ _. omega arith)))
 
   pub tree-read : {a : Agreement} {to : ℕ} {left : List ℕ} → read_tree file ≡ read a to left → Tree a
   tree-read e = let r = read-of in (what-read (subst (Of file 0 0 r.0 (λ a _. Tree a)) e r.2)).3
@@ -71,7 +72,7 @@ module _ (file : List ℕ) where
 
   -- their numbers are small
   pub number-small : {n p : ℕ} → read_tree file ≡ refused n p → n ≤ 8
-  number-small e = let r = read-of in which-refused (subst (Of file 0 0 r.0 (λ a _. Tree a)) e r.2)
+  number-small e = few-refused (few-tree file) e
 
   -- ---- acceptance
 

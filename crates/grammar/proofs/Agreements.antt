@@ -253,7 +253,7 @@ module _ (file : List ℕ) where
     pub group-keeps : (most start at : ℕ) → Keeps file start at end (group most kind body) (Row end kind body P most at)
     unfolding group comes comes_in
     group-keeps zero start at =
-        keeps-look (λ left. has 4 left && eqb (kind_of left) kind) _ λ c i. keeps-case c (λ _. keeps-never 4 (omega arith)) (λ f. keeps-pure [] (done (sym i ∙ f)))
+        keeps-look (λ left. has 4 left && eqb (kind_of left) kind) _ λ c i. keeps-case c (λ _. keeps-never 4) (λ f. keeps-pure [] (done (sym i ∙ f)))
     group-keeps (suc most) start at =
         keeps-look (λ left. has 4 left && eqb (kind_of left) kind) _ λ c i.
         keeps-case c
@@ -289,7 +289,7 @@ module _ (file : List ℕ) where
       keeps-look is_empty _ λ e i.
       keeps-case e
       (λ t. keeps-within λ low high. keeps-pure tt (refl, omega (arith, none-left (part at end file) (sym i ∙ t), part_length at end file high)))
-      (λ _. keeps-never 3 (omega arith))
+      (λ _. keeps-never 3)
     where
       none-left : (s : List ℕ) → is_empty s ≡ true → length s ≡ 0
       none-left [] h = refl

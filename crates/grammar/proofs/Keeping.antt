@@ -22,9 +22,9 @@ abbrev pub Anything : {A : Type 0} → A → ℕ → Type 0
 Anything a to = Unit {0}
 
 module _ (file : List ℕ) where
-  -- a reading in a record that begins at `start`: a refusal has a number of at most 8, its place is in the record, and what was read has P with the offset after it
+  -- a reading in a record that begins at `start`: a refusal's place is in the record, and what was read has P with the offset after it
   pub data Of {A : Type 0} (start at end : ℕ) (P : A → ℕ → Type 0) : Reading A → Type 0 where
-    stops : {n : ℕ} (p : ℕ) → n ≤ 8 → (start ≤ end → p ≤ end) → Of start at end P (refused n p)
+    stops : {n : ℕ} (p : ℕ) → (start ≤ end → p ≤ end) → Of start at end P (refused n p)
     gives : {a : A} {rest : List ℕ} (to : ℕ) → at ≤ to → to ≤ end → rest ≡ part to end file → P a to → Of start at end P (read a to rest)
 
   -- a reader, in whatever part of the file
@@ -47,9 +47,9 @@ module _ {file : List ℕ} where
     pub keeps-within : {r : Reader A} → (at ≤ end → end ≤ length file → Keeps file start at end r P) → Keeps file start at end r P
     keeps-within h = record { each = λ low high. (h low high).each low high }
 
-    pub keeps-refuse : (n : ℕ) → n ≤ 8 → Keeps file start at end (refuse n) P
+    pub keeps-refuse : (n : ℕ) → Keeps file start at end (refuse n) P
     unfolding refuse
-    keeps-refuse n few = record { each = λ low high. stops start few (λ h. h) }
+    keeps-refuse n = record { each = λ low high. stops start (λ h. h) }
 
     pub keeps-case : (b : Bool) {r q : Reader A} → (b ≡ true → Keeps file start at end r P) → (b ≡ false → Keeps file start at end q P)
         → Keeps file start at end (if b then r else q) P
@@ -68,7 +68,7 @@ module _ {file : List ℕ} where
     pub keeps-test : (b : Bool) {r : Reader A} → (b ≡ true → Keeps file start at end r P) → Keeps file start at end (in_range b >> r) P
     unfolding in_range refuse
     keeps-test true h = record { each = (h refl).each }
-    keeps-test false h = record { each = λ low high. stops start (omega arith) (λ h. h) }
+    keeps-test false h = record { each = λ low high. stops start (λ h. h) }
 
     -- what is seen of what is left, without going on
     pub keeps-look : {B : Type 0} (see : List ℕ → B) (f : B → Reader A) → ((b : B) → b ≡ see (part at end file) → Keeps file start at end (f b) P)
@@ -85,11 +85,11 @@ module _ {file : List ℕ} where
     keeps-then {B} {Q} {r} {f} h k = record { each = λ low high. go high (h.each low high) }
       where
         on : {to : ℕ} {x : Reading A} → at ≤ to → Of file start to end P x → Of file start at end P x
-        on le (stops p n h) = stops p n h
+        on le (stops p h) = stops p h
         on le (gives to l u e p) = gives to (omega arith) u e p
 
         go : {x : Reading B} → end ≤ length file → Of file start at end Q x → Of file start at end P (after x (λ b. f b start))
-        go high (stops p n h) = stops p n h
+        go high (stops p h) = stops p h
         go high (gives {a = b} to l u e q) =
             subst (λ (t : List ℕ). Of file start at end P (f b start to t)) (sym e) (on l ((k b to q).each u high))
 
@@ -104,7 +104,7 @@ module _ {file : List ℕ} where
     keeps-by {Q} {r} h k = record { each = λ low high. go refl (h.each low high) }
       where
         go : {x : Reading A} → r start at (part at end file) ≡ x → Of file start at end Q x → Of file start at end P x
-        go i (stops p n h) = stops p n h
+        go i (stops p h) = stops p h
         go i (gives {a = a} to l u e q) = gives to l u e (k a to l (i ∙ ap (read a to) e) q)
 
     pub keeps-as : {Q : A → ℕ → Type 0} {r : Reader A} → Keeps file start at end r Q → ((a : A) (to : ℕ) → Q a to → P a to)
@@ -135,7 +135,7 @@ module _ {file : List ℕ} where
       go low high true h =
           let fits : at + n ≤ end = omega (arith, has-length n (part at end file) h, part_length at end file high) in
           gives (at + n) (omega arith) fits (part-drop at end n file) (part-number at end n file fits, refl)
-      go low high false h = stops at (omega arith) (λ _. low)
+      go low high false h = stops at (λ _. low)
 
   -- k of 32 bits
   fields-there : (start end k at : ℕ) → Keeps file start at end (fields k 4) (λ xs to. (xs ≡ numbers_at k at file) × (to ≡ at + 4 * k))
@@ -172,7 +172,7 @@ module _ {file : List ℕ} where
         subst (λ (m : ℕ). Keeps file start m end r P) (sym e) h
       where
         tested : (t : Bool) → Keeps file start b end (in_range t) (λ _ to. to ≡ b)
-        tested t = keeps-if t (keeps-pure tt refl) (keeps-refuse 4 (omega arith))
+        tested t = keeps-if t (keeps-pure tt refl) (keeps-refuse 4)
 
   -- ---- a child record
 
@@ -203,8 +203,8 @@ module _ {file : List ℕ} where
             → body (kind_of (drop at file)) at (at + 4) (part (at + 4) (at + q) file) ≡ x
             → Of file at (at + 4) (at + q) (λ a m. m ≡ at + q → P (kind_of (drop at file)) (at + q) a) x
             → Of file start at end Q (closed (drop q (part at end file)) x)
-        close q low fits high z i (stops p n h) = stops p n (λ _. let e = h (omega arith) in omega arith)
-        close q low fits high z i (gives {rest = b ∷ bs} to l u e p) = stops to (omega arith) (λ _. omega arith)
+        close q low fits high z i (stops p h) = stops p (λ _. let e = h (omega arith) in omega arith)
+        close q low fits high z i (gives {rest = b ∷ bs} to l u e p) = stops to (λ _. omega arith)
         close q low fits high z i (gives {a = a} {rest = []} to l u e p) =
             let w : to ≡ at + q = omega (arith, ap length e, part_length to (at + q) file (omega arith)) in
             gives to (omega arith) (omega arith) (part-drop at end q file ∙ ap (λ (m : ℕ). part m end file) (sym w)) (
@@ -216,7 +216,7 @@ module _ {file : List ℕ} where
             → Of file start at end Q
             (if w then closed (drop (size_of (part at end file)) (part at end file))
             (body (kind_of (part at end file)) at (at + 4) (part 4 (size_of (part at end file)) (part at end file))) else refused 2 at)
-        go low high false w = stops at (omega arith) (λ _. low)
+        go low high false w = stops at (λ _. low)
         go low high true w =
             let l = whole-record (part at end file) w in
             let p = part_length at end file high in
@@ -242,8 +242,8 @@ module _ {file : List ℕ} where
       stored-child other h.size h.four h.fits (e ∙ ap (λ (n : ℕ). read b to (take n (drop to file))) z)
 
   -- a child that is refused at any kind
-  pub keeps-never : {A : Type 0} {start at end : ℕ} {P : A → ℕ → Type 0} (n : ℕ) → n ≤ 8 → Keeps file start at end (child (λ _. refuse n)) P
-  keeps-never n few = keeps-as (keeps-record (λ _ _. ⊥) λ _ _. keeps-refuse n few) λ a to h. absurd h.1
+  pub keeps-never : {A : Type 0} {start at end : ℕ} {P : A → ℕ → Type 0} (n : ℕ) → Keeps file start at end (child (λ _. refuse n)) P
+  keeps-never n = keeps-as (keeps-record (λ _ _. ⊥) λ _ _. keeps-refuse n) λ a to h. absurd h.1
 
   -- ---- what was read, and the place of a refusal
 
@@ -253,10 +253,7 @@ module _ {file : List ℕ} where
     what-read (gives to l u e p) = (l, u, e, p)
 
     pub where-refused : {n p : ℕ} → Of file start at end P (refused n p) → start ≤ end → p ≤ end
-    where-refused (stops p n h) = h
-
-    pub which-refused : {n p : ℕ} → Of file start at end P (refused n p) → n ≤ 8
-    which-refused (stops p n h) = n
+    where-refused (stops p h) = h
 
 -- a reading of any bytes is one inside a file, which has them at `at`
 pub record Embedded {A : Type 0} (at : ℕ) (s : List ℕ) (a : A) (to : ℕ) (rest : List ℕ) (P : (file : List ℕ) (end : ℕ) → A → ℕ → Type 0) : Type 0 where

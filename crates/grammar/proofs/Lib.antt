@@ -4,4 +4,5 @@ pub mod Keeping
 pub mod Levels
 pub mod Statements
 pub mod Agreements
+pub mod Small
 pub mod Accepted

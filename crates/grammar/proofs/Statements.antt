@@ -58,18 +58,18 @@ module _ (file : List ℕ) where
         keeps-choose kind
         (keeps-field 4 _ _ refl (keeps-pure _ tt)
         & keeps-field 2 _ _ refl (keeps-test _ λ _. keeps-pure _ tt)
-        & keeps-if in_rule (keeps-refuse 3 (omega arith)) (keeps-field 2 _ _ refl (keeps-test _ λ _. keeps-pure _ tt))
-        & keeps-if in_rule (keeps-refuse 3 (omega arith)) (keeps-field 2 _ _ refl (keeps-test _ λ _. keeps-pure _ tt))
+        & keeps-if in_rule (keeps-refuse 3) (keeps-field 2 _ _ refl (keeps-test _ λ _. keeps-pure _ tt))
+        & keeps-if in_rule (keeps-refuse 3) (keeps-field 2 _ _ refl (keeps-test _ λ _. keeps-pure _ tt))
         & keeps-field 2 _ _ refl (keeps-test _ λ _. keeps-pure _ tt)
         & keeps-field 2 _ _ refl (keeps-test _ λ _. keeps-then (h _ _ _) λ x m _. keeps-then (h _ _ _) λ y n _. keeps-pure _ tt)
         & keeps-then (h _ _ _) (λ x m _. keeps-pure _ tt)
         & done)
-        (keeps-refuse 3 (omega arith))
+        (keeps-refuse 3)
 
     pub expression-keeps : (levels start at end : ℕ)
         → Keeps file start at end (expression vars in_rule levels) (Stored file (expression vars in_rule levels) at)
     unfolding expression
-    expression-keeps zero start at end = keeps-as (keeps-record Anything λ _ to. keeps-refuse 5 (omega arith)) λ a to h. h.0
+    expression-keeps zero start at end = keeps-as (keeps-record Anything λ _ to. keeps-refuse 5) λ a to h. h.0
     expression-keeps (suc l) start at end =
         keeps-as (keeps-record Anything λ kind to. body-keeps (λ s a e. keeps-any (expression-keeps l s a e)) kind _ _ to) λ a to h. h.0
 
@@ -114,7 +114,7 @@ module _ (file : List ℕ) where
           & keeps-then (he _ _ _) (λ x m _. keeps-pure (require x) tt)
           & keeps-then (he _ _ _) (λ x m _. keeps-pure (return x) tt)
           & done)
-          (keeps-refuse 3 (omega arith))
+          (keeps-refuse 3)
 
     -- an expression with so many levels left
     any-expression : (l start at end : ℕ) → Keeps file start at end (expression vars false l) Anything
@@ -122,9 +122,9 @@ module _ (file : List ℕ) where
 
     pub loop-set-keeps : (levels start at end : ℕ) → Keeps file start at end (loop_set vars levels) (SetAt levels at)
     unfolding loop_set only
-    loop-set-keeps zero start at end = keeps-record (λ x _. Aimed vars x) λ _ to. keeps-refuse 5 (omega arith)
+    loop-set-keeps zero start at end = keeps-record (λ x _. Aimed vars x) λ _ to. keeps-refuse 5
     loop-set-keeps (suc l) start at end =
-        keeps-record (λ x _. Aimed vars x) λ kind to. keeps-if (eqb kind 16) (set-keeps (any-expression l) _ _ _) (keeps-refuse 3 (omega arith))
+        keeps-record (λ x _. Aimed vars x) λ kind to. keeps-if (eqb kind 16) (set-keeps (any-expression l) _ _ _) (keeps-refuse 3)
 
     module _ (l : ℕ) {s : Reader Stmt} (hs : (start at end : ℕ) → Keeps file start at end s (λ x to. Statement l at x to)) where
       statements-keep : (n start at end : ℕ) → Keeps file start at end (statements n s) (λ xs to. Statements l at xs to)
@@ -158,7 +158,7 @@ module _ (file : List ℕ) where
           keeps-here (SetAt l) _ (loop-set-keeps l _ _ _) λ b k o ib hk. keeps-then (hs _ _ _) λ y p hy.
           keeps-pure (for a i c x b k y) (counted ia ic ib hi hx hk hy))
           & done)
-          (keeps-refuse 3 (omega arith))
+          (keeps-refuse 3)
         where
           e : {m : ℕ} → Keeps file at m end (expression vars false l) (ExprAt l m)
           e = expression-keeps vars false l _ _ _
@@ -196,7 +196,7 @@ module _ (file : List ℕ) where
     pub statement-keeps : (levels start at end : ℕ)
         → Keeps file start at end (statement vars levels) (λ s to. Stored file (statement vars levels) at s to × Statement levels at s to)
     unfolding statement
-    statement-keeps zero start at end = keeps-record (λ s to. Statement zero at s to) λ _ to. keeps-refuse 5 (omega arith)
+    statement-keeps zero start at end = keeps-record (λ s to. Statement zero at s to) λ _ to. keeps-refuse 5
     statement-keeps (suc l) start at end =
         keeps-as (keeps-child (Body l at) λ kind to. statement-body-keeps l (λ start at end. keeps-as (statement-keeps l start at end) λ _ _ h. h.1) kind at to)
         λ s to h. (h.0, closed-body h.0 h.1)
@@ -232,7 +232,7 @@ expression-inner vars in_rule l at file kind to =
 pub loop-set-inner : (vars l at : ℕ) → Inner at (only 16 (set_body vars (expression vars false l)))
 unfolding only
 loop-set-inner vars l at file kind to =
-    keeps-if (eqb kind 16) (keeps-any (set-keeps file vars (any-expression file vars l) at (at + 4) to)) (keeps-refuse 3 (omega arith))
+    keeps-if (eqb kind 16) (keeps-any (set-keeps file vars (any-expression file vars l) at (at + 4) to)) (keeps-refuse 3)
 
 pub statement-inner : (vars l at : ℕ) → Inner at (statement_body vars (expression vars false l) (loop_set vars l) (statement vars l))
 statement-inner vars l at file kind to =

@@ -10,6 +10,7 @@ pub mod StatementLaws
 pub mod StatementKinds
 pub mod BlockLaws
 pub mod Anywhere
+pub mod Faults
 pub mod Accepts
 pub mod Simples
 pub mod Goods
