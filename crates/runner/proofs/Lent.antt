@@ -32,10 +32,14 @@ use Rattle.machine.proofs.Calls.{given-refused, tests-passed, sender-refused, le
 use Rattle.access.specs.Trees.{AcceptedFile}
 use Rattle.access.proofs.Using.{same-accepted}
 use Rattle.access.specs.FoundAnswers.{Found}
+use Rattle.walker.specs.declared.steps.Steps.{Steps}
 use Rattle.walker.specs.Tables.{Expanded, Tabled, EntryFound}
+use Rattle.walker.specs.Walkable.{Walkable}
 use Rattle.walker.specs.Runs.{run_of, walk_in, walk_by_in}
 use Rattle.walker.proofs.Ends.{not_going}
-use Rattle.runner.specs.Tables.{start_in, call_in}
+use Rattle.walker.proofs.Walks.{traversable, with-fields}
+use Rattle.runner.specs.declared.Prepared.{Prepared}
+use Rattle.runner.specs.Tables.{FieldsIn, start_in, call_in}
 use Rattle.runner.proofs.Runs.{no-and}
 
 -- ---- the file of lent words
@@ -54,6 +58,13 @@ by-file {words = words} e a =
 
 pub tabled : {file words : List ℕ} {n : ℕ} (a : Expanded file words) → n ≡ length (expansion a.tree) → Tabled words n
 tabled {file} a h = record { file = file; expanded = a; counts = h }
+
+-- the steps that a start goes by, with the file's fields, and those that a call goes by
+pub start-walkable : (s : Steps) {f : Fields} → FieldsIn s.file.now s.words.now f → Walkable s.file.now s.words.now s.nodes.now f
+start-walkable s = with-fields (traversable s.walkable)
+
+pub call-walkable : (p : Prepared) → Walkable p.steps.file.now p.steps.words.now p.steps.nodes.now p.fields
+call-walkable p = with-fields (traversable p.steps.walkable) p.are_fields
 
 -- ---- how a run on steps ends
 

@@ -6,7 +6,9 @@ use mathlib.Core.List.{List}
 use mathlib.Core.Logic.{∥∥₁_elim}
 use mathlib.Core.Option.{some}
 use Rattle.std.proofs.Math.Nat.{ℕ_set}
+use Rattle.std.proofs.Props.{props}
 use lib.ListN.{get_or}
+use Rattle.rules.specs.declared.Fields.{Fields}
 use Rattle.rules.specs.declared.Machine.{Machine}
 use Rattle.rules.specs.Syntax.{Agreement}
 use Rattle.rules.specs.Expanding.{expansion, table}
@@ -18,19 +20,19 @@ use Rattle.rules.specs.Stepping.{Records, records_in, leaving, begins_with}
 use Rattle.machine.specs.declared.Stop.{Stop}
 use Rattle.machine.specs.Runs.{stopped_by}
 use Rattle.walker.specs.Tables.{Expanded, step_at, place_from}
-use Rattle.walker.specs.Walkable.{Walkable}
+use Rattle.walker.specs.Walkable.{Traversable, Walkable}
 use Rattle.walker.specs.Runs.{run_of, advance_in, walk_in, Ready}
 use Rattle.walker.proofs.Ends.{walk_ends, walk_refused, walk-stops, walk-goes}
 use Rattle.walker.proofs.Meeting.{same-tree, none_first, leaves}
 
 -- what steps keep, where a proof wants the tree itself: it is the file's
-pub walkable : {file words nodes : List ℕ} → ∥ Walkable file words nodes ∥₁ → Walkable file words nodes
-walkable {file} {words} {nodes} h = go (file_of file) refl
+pub traversable : {file words nodes : List ℕ} → ∥ Traversable file words nodes ∥₁ → Traversable file words nodes
+traversable {file} {words} {nodes} h = go (file_of file) refl
   where
-    go : (f : File) → file_of file ≡ f → Walkable file words nodes
+    go : (f : File) → file_of file ≡ f → Traversable file words nodes
     go (bad r) e = absurd (∥∥₁_elim h (λ x y. absurd x) (λ w. let k = w.expanded.is in cc))
     go (good t) e =
-        let same : (w : Walkable file words nodes) → w.expanded.tree ≡ t = λ w. (let k = w.expanded.is in cc) in
+        let same : (w : Traversable file words nodes) → w.expanded.tree ≡ t = λ w. (let k = w.expanded.is in cc) in
         record {
           expanded = record {
             tree = t;
@@ -44,7 +46,22 @@ walkable {file} {words} {nodes} h = go (file_of file) refl
           };
         }
 
-module _ {file words nodes : List ℕ} (w : Walkable file words nodes) where
+-- steps with the file's fields, as what a start and a call go by
+module _ {file words nodes : List ℕ} {fields : Fields} where
+  pub steps-of : Walkable file words nodes fields → Traversable file words nodes
+  steps-of w = record { expanded = w.expanded; indexed = w.indexed }
+
+  pub fields-of : Walkable file words nodes fields → (a : Expanded file words) → fields ≡ a.tree.fields
+  fields-of w a = w.counts ∙ ap (λ (t : Agreement). t.fields) (same-tree w.expanded a)
+
+  pub with-fields : Traversable file words nodes → ((a : Expanded file words) → fields ≡ a.tree.fields) → Walkable file words nodes fields
+  with-fields t f = record { expanded = t.expanded; indexed = t.indexed; counts = f t.expanded }
+
+  pub walkable : ∥ Walkable file words nodes fields ∥₁ → Walkable file words nodes fields
+  walkable h =
+      with-fields (traversable (∥∥₁_elim h (hlevel props) (λ w. ∣ steps-of w ∣₁))) (λ a. ∥∥₁_elim h (hlevel props) (λ w. fields-of w a))
+
+module _ {file words nodes : List ℕ} (w : Traversable file words nodes) where
   -- the index is right for every tree of the file
   placed : (a : Expanded file words) (n k : ℕ) → k ≡ get_or nodes n 0 → place_from 0 (expansion a.tree) n ≡ k
   placed a n k e = sym (e ∙ w.indexed.has n ∙ ap (λ (t : Agreement). place_from 0 (expansion t) n) (same-tree w.expanded a))

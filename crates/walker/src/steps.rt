@@ -1,5 +1,5 @@
 // The steps of an accepted file, as a run goes by them.
-ghost use Rattle.walker.specs.Walkable.{Walkable};
+ghost use Rattle.walker.specs.Walkable.{Traversable};
 
 use crate::index::NODES;
 
@@ -9,5 +9,5 @@ pub struct Steps<'a> {
     pub file: &'a [u8],
     pub words: &'a [u32],
     pub nodes: &'a [u32; NODES],
-    pub ghost walkable: { ∥ Walkable file.now words.now nodes.now ∥₁ },
+    pub ghost walkable: { ∥ Traversable file.now words.now nodes.now ∥₁ },
 }

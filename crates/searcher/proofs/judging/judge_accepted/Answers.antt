@@ -15,9 +15,9 @@ use Rattle.access.specs.Trees.{AcceptedFile, TreeRead}
 use Rattle.access.proofs.Kept.{laid-of, accepted-moved}
 use Rattle.access.proofs.Using.{counts, tree-bounds, tree_of}
 use Rattle.access.specs.declared.RuleAt.{RuleAt}
-use Rattle.runner.proofs.Lent.{file-of, by-file}
+use Rattle.runner.proofs.Lent.{file-of, by-file, call-walkable}
 use Rattle.walker.specs.Tables.{Expanded}
-use Rattle.walker.proofs.Walks.{walkable}
+use Rattle.walker.proofs.Walks.{fields-of}
 use Rattle.searcher.specs.Plans.{Planned}
 use Rattle.searcher.specs.Standing.{HeldAs}
 use Rattle.searcher.proofs.Judges.{held_by, rule-here}
@@ -57,27 +57,27 @@ planned {judge = judge} is e a fields rows x holds =
 pub at_first-status-requires : goal.at_first-status-requires
 at_first-status-requires c =
     let h = laid-of c.args.parsed.now.laid in
-    let a = accepted-moved (sym c.requires.0) (file-of (walkable c.args.prepared.now.steps.walkable).expanded) in
+    let a = accepted-moved (sym c.requires.0) (file-of (call-walkable c.args.prepared.now).expanded) in
     let x = rule-here h a c.args.i c.requires.1 in
     (x.0, held_by h (tree_of a) c.args.i c.requires.1 x.0 c.rule-rule.result x.1 (c.rule-rule.ensures (tree_of a)))
 
 pub search-requires : goal.search-requires
 search-requires c =
     let h = laid-of c.args.parsed.now.laid in
-    let w = walkable c.args.prepared.now.steps.walkable in
+    let w = call-walkable c.args.prepared.now in
     let a = accepted-moved (sym c.requires.0) (file-of w.expanded) in
     let x = rule-here h a c.args.i c.requires.1 in
     let holds = held_by h (tree_of a) c.args.i c.requires.1 x.0 c.rule-rule.result x.1 (c.rule-rule.ensures (tree_of a)) in (
-      planned c.requires.0 w.expanded a (c.args.prepared.now.are_fields w.expanded) (c.rows-all.ensures (tree_of a)) x.0 holds,
+      planned c.requires.0 w.expanded a w.counts (c.rows-all.ensures (tree_of a)) x.0 holds,
       c.requires.2,
-      omega (arith, ap (λ (f : Fields). f.depth) (c.args.prepared.now.are_fields w.expanded), (tree-bounds (tree_of a)).fields.small-depth),
+      omega (arith, ap (λ (f : Fields). f.depth) w.counts, (tree-bounds (tree_of a)).fields.small-depth),
     )
 
 pub returns : goal.returns
 returns c = λ a x h fresh.
-    let w = walkable c.args.prepared.now.steps.walkable in
+    let w = call-walkable c.args.prepared.now in
     let holds = held_by (laid-of c.args.parsed.now.laid) (tree_of a) c.args.i c.requires.1 x c.rule-rule.result h (c.rule-rule.ensures (tree_of a)) in
-    let f = c.args.prepared.now.are_fields (by-file w.expanded (accepted-moved c.requires.0 a)) in
+    let f = fields-of w (by-file w.expanded (accepted-moved c.requires.0 a)) in
     c.search.ensures (planned c.requires.0 w.expanded a f (c.rows-all.ensures (tree_of a)) x holds)
     ∙ ap judged_of (ruling-by a.tree x c.args.fresh c.at_first-status.result fresh (c.at_first-status.ensures x holds) _ _ _
     (ap (λ (f : Fields). f.bound) f) (ap length (c.rows-all.ensures (tree_of a))) (ap (λ (f : Fields). f.depth) f))

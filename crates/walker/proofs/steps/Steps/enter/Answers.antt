@@ -15,7 +15,7 @@ use Rattle.walker.specs.Runs.{run_of, walk_in, walk_by_in, Enterable}
 use Rattle.walker.proofs.Tables.{at_here}
 use Rattle.walker.proofs.Meeting.{ExprFrom, ExprAt, expr-from, at_place, guard-there}
 use Rattle.walker.proofs.Moves.{admits-on, admits-stops}
-use Rattle.walker.proofs.Walks.{walkable}
+use Rattle.walker.proofs.Walks.{traversable}
 use Rattle.walker.proofs.steps.Steps.enter.Goals as goal
 
 -- the guard
@@ -30,17 +30,17 @@ guards d m b is = is ∙ ap (λ (e : Expr). guarded d e m) b.is
 
 pub step_at-step-requires : goal.step_at-step-requires
 step_at-step-requires c =
-    let a = (walkable c.args.self.now.walkable).expanded in
+    let a = (traversable c.args.self.now.walkable).expanded in
     (at_place a c.args.place (c.requires.0 a).1.here).room
 
 pub slice_bounds-guard-start : goal.slice_bounds-guard-start
-slice_bounds-guard-start c = (expr-from c.step_at-step.ensures.at (met c.requires.0 (walkable c.args.self.now.walkable).expanded)).within
+slice_bounds-guard-start c = (expr-from c.step_at-step.ensures.at (met c.requires.0 (traversable c.args.self.now.walkable).expanded)).within
 
 pub slice_bounds-guard-count : goal.slice_bounds-guard-count
-slice_bounds-guard-count c = (expr-from c.step_at-step.ensures.at (met c.requires.0 (walkable c.args.self.now.walkable).expanded)).within
+slice_bounds-guard-count c = (expr-from c.step_at-step.ensures.at (met c.requires.0 (traversable c.args.self.now.walkable).expanded)).within
 
 pub guard-requires : goal.guard-requires
-guard-requires c = (expr-from c.step_at-step.ensures.at (met c.requires.0 (walkable c.args.self.now.walkable).expanded)).bytes
+guard-requires c = (expr-from c.step_at-step.ensures.at (met c.requires.0 (traversable c.args.self.now.walkable).expanded)).bytes
 
 pub returns-in_err-guard : goal.returns-in_err-guard
 returns-in_err-guard c = λ a s e.
@@ -55,7 +55,7 @@ returns-in_err-guard c = λ a s e.
 
 pub walk-requires : goal.walk-requires
 walk-requires c =
-    let a = (walkable c.args.self.now.walkable).expanded in
+    let a = (traversable c.args.self.now.walkable).expanded in
     let x = met c.requires.0 a in
     let b = expr-from c.step_at-step.ensures.at x in
     let m = c.args.m.now in

@@ -11,7 +11,7 @@ use Rattle.machine.specs.declared.Stop.{Stop}
 use Rattle.machine.proofs.Keeping.{still-funded, kept_on}
 use Rattle.walker.specs.Runs.{run_of, indexed_as}
 use Rattle.walker.proofs.Ends.{step_keeps, step-costs}
-use Rattle.walker.proofs.Walks.{walkable, ready, ends-here, no_step, stops-here, goes_on}
+use Rattle.walker.proofs.Walks.{traversable, ready, ends-here, no_step, stops-here, goes_on}
 use Rattle.walker.proofs.steps.Steps.walk.Goals as goal
 
 -- what is found of a node, from what is made of it
@@ -25,7 +25,7 @@ nothing (Some k) e h g is = cc
 
 pub returns-in_err-i : goal.returns-in_err-i
 returns-in_err-i c = λ a.
-    let w = walkable c.args.self.now.walkable in
+    let w = traversable c.args.self.now.walkable in
     let p = err_from_is_err_and c.from_residual.result c.from_residual.ensures.1 in
     let n = nothing _ _ c.ok_or.ensures.value c.in_err-i.was c.place_of.ensures in
     rw (p.1, p.2, n.1) (ap run_of (sym (c.loop-at.invariant.1 a ∙ no_step w a _ _ _ (omega arith) n.0)))
@@ -33,24 +33,24 @@ returns-in_err-i c = λ a.
 pub advance-requires : goal.advance-requires
 advance-requires c =
     let i = found _ _ c.ok_or.ensures.value c.in_ok-i.was c.place_of.ensures in
-    (ready (walkable c.args.self.now.walkable) _ _ i, still-funded c.loop-at.invariant.0 c.requires)
+    (ready (traversable c.args.self.now.walkable) _ _ i, still-funded c.loop-at.invariant.0 c.requires)
 
 pub returns-in_err-at : goal.returns-in_err-at
 returns-in_err-at c = λ a.
-    let w = walkable c.args.self.now.walkable in
+    let w = traversable c.args.self.now.walkable in
     let p = err_from_is_err_and c.from_residual-in_err-at.result c.from_residual-in_err-at.ensures.1 in
     let i = found _ _ c.ok_or.ensures.value c.in_ok-i.was c.place_of.ensures in
     rw (p.1, p.2) (stops-here w a _ _ _ (omega arith) _ i _ _ (c.in_err-at.ensures a) ∙ ap run_of (sym (c.loop-at.invariant.1 a)))
 
 pub loop-at-smaller : goal.loop-at-smaller
 loop-at-smaller c =
-    let a = (walkable c.args.self.now.walkable).expanded in
+    let a = (traversable c.args.self.now.walkable).expanded in
     let k = step-costs c.args.setting.now (records_in c.args.self.now.file.now a.tree.fields.variables) (expansion a.tree) _ _ (c.in_ok-at.ensures a) in
     omega (arith, k.0, k.1)
 
 pub loop-at-preserved : goal.loop-at-preserved
 loop-at-preserved c =
-    let w = walkable c.args.self.now.walkable in
+    let w = traversable c.args.self.now.walkable in
     let a = w.expanded in
     let h = c.loop-at.invariant in
     let i = found _ _ c.ok_or.ensures.value c.in_ok-i.was c.place_of.ensures in
@@ -62,5 +62,5 @@ loop-at-preserved c =
 
 pub returns : goal.returns
 returns c = λ a.
-    let w = walkable c.args.self.now.walkable in
+    let w = traversable c.args.self.now.walkable in
     ap run_of (sym (c.loop-at.invariant.1 a ∙ ends-here w a _ _ _ (omega arith)))
