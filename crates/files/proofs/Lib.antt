@@ -6,3 +6,4 @@ pub mod MemberLaws
 pub mod NameLaws
 pub mod GroupLaws
 pub mod TreeLaws
+pub mod Faults

@@ -19,7 +19,7 @@ abbrev pub Few : {A : Type 0} → Reading A → Type 0
 Few (refused n p) = n ≤ 8
 Few (read a at left) = Unit {0}
 
--- every refusal of a reader
+-- every refusal of the reader has one
 pub record Small {A : Type 0} (r : Reader A) : Type 0 where
   pub each : (start at : ℕ) (left : List ℕ) → Few (r start at left)
 
@@ -232,7 +232,7 @@ small-row A =
     small-then (small-field 1) λ n. small-then (small-field 1) λ s. tested _
     (small-then small-zero λ _. small-then small-zero λ _. small-then (small-field 4) λ c. small-then (small-fields 4 4) λ xs. small-pure _)
 
-small-fields-body : Small fields_body
+pub small-fields-body : Small fields_body
 unfolding fields_body
 small-fields-body =
     small-then (small-field 1) λ S. tested _ (small-then (small-field 1) λ v. tested _ (small-then (small-field 1) λ A. tested _

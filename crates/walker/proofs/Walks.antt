@@ -46,7 +46,7 @@ traversable {file} {words} {nodes} h = go (file_of file) refl
           };
         }
 
--- steps with the file's fields, as what a start and a call go by
+-- steps with the file's fields, as a start and a call go by them
 module _ {file words nodes : List ℕ} {fields : Fields} where
   pub steps-of : Walkable file words nodes fields → Traversable file words nodes
   steps-of w = record { expanded = w.expanded; indexed = w.indexed }
