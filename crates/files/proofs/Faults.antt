@@ -2,7 +2,8 @@
 use Prim.Native.Nat.{ℕ}
 use mathlib.Core.List.{List}
 use Rattle.laws.proofs.Choosing.{done, ◌&◌}
-use Rattle.grammar.proofs.Small.{Small, small-pure, small-then, small-choose, small-field, small-range, small-zero, small-group, small-end, small-transition, small-row, small-rule}
+use Rattle.grammar.proofs.Small.{Small, small-pure, small-then, small-choose, small-field, small-range, small-zero, small-group, small-no-more}
+use Rattle.grammar.proofs.Small.{small-transition, small-row, small-rule}
 use Rattle.files.specs.Members.{transition_head, rule_head, member}
 use Rattle.files.specs.Trees.{groups}
 
@@ -31,4 +32,4 @@ pub small-groups : (states vars accounts : ℕ) → Small (groups states vars ac
 unfolding groups
 small-groups states vars accounts =
     small-then (small-group (small-transition vars states) 64 2) λ ts. small-then (small-group (small-row accounts) 16 3) λ cs.
-    small-then (small-group (small-rule vars _) 8 4) λ rs. small-then small-end λ _. small-pure _
+    small-then (small-group (small-rule vars _) 8 4) λ rs. small-then small-no-more λ _. small-pure _

@@ -9,8 +9,10 @@ use lib.Dec.{eqb, leb}
 use lib.ListN.{length, drop}
 use Rattle.rules.specs.Basics.{if◌then◌else◌, choose, has, part}
 use Rattle.rules.specs.Syntax.{Expr, Simple, transfer, require, return, Stmt, simple, block, if_then, if_else, while, for, last, ◌then◌}
-use Rattle.rules.specs.Reading.{Reading, refused, read, Reader, after, ◌>>=◌, ◌>>◌, pure, self, here, at_end, room, refuse, in_range, field, fields, zero_byte, closed, size_of, kind_of, whole, child, only, comes, group, no_more, statements}
-use Rattle.rules.specs.Reading.{expression_body, expression, placed, set_body, simples, statement_body, loop_set, statement, transition_body, rule_body, row_body, fields_body, agreement_body, read_tree}
+use Rattle.rules.specs.Reading.{Reading, refused, read, Reader, after, ◌>>=◌, ◌>>◌, pure, self, here, at_end, room, refuse, in_range}
+use Rattle.rules.specs.Reading.{field, fields, zero_byte, closed, size_of, kind_of, whole, child, only, comes, group, no_more, statements}
+use Rattle.rules.specs.Reading.{expression_body, expression, placed, set_body, simples, statement_body, loop_set, statement}
+use Rattle.rules.specs.Reading.{transition_body, rule_body, row_body, fields_body, agreement_body, read_tree}
 use Rattle.laws.proofs.Basics.{if-all}
 use Rattle.laws.proofs.Choosing.{Rows, done, ◌&◌, choose-by}
 
@@ -125,9 +127,9 @@ module _ {A : Type 0} {body : Reader A} (h : Small body) where
       small-then (small-comes kind) λ c.
       small-if c (small-then (small-child λ _. h) λ x. small-then (small-group most kind) λ xs. small-pure (x ∷ xs)) (small-pure [])
 
-pub small-end : Small no_more
+pub small-no-more : Small no_more
 unfolding no_more
-small-end = small-then small-at-end λ e. small-if e (small-pure tt) (small-child λ _. small-refuse 3 (omega arith))
+small-no-more = small-then small-at-end λ e. small-if e (small-pure tt) (small-child λ _. small-refuse 3 (omega arith))
 
 pub small-statements : {s : Reader Stmt} → Small s → (n : ℕ) → Small (statements n s)
 unfolding statements
@@ -245,7 +247,7 @@ unfolding agreement_body
 small-agreement =
     small-then small-fields-body λ f. small-then (small-statement f.variables 15) λ i. small-then (small-statement f.variables 15) λ e.
     small-then (small-group (small-transition f.variables f.states) 64 2) λ ts. small-then (small-group (small-row f.accounts) 16 3) λ cs.
-    small-then (small-group (small-rule f.variables _) 8 4) λ rs. small-then small-end λ _. small-pure _
+    small-then (small-group (small-rule f.variables _) 8 4) λ rs. small-then small-no-more λ _. small-pure _
 
 -- a file
 pub few-tree : (file : List ℕ) → Few (read_tree file)
